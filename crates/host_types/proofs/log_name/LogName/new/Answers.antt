@@ -1,0 +1,28 @@
+use Rattle.std.proofs.Common.{◌≡◌, ℕ, ◌+◌, ◌-◌, ◌≤◌, zero, suc, List, [], ◌++◌, length, drop, replicate, refl, ◌∙◌, ap, arith, rules, length-append, length-drop}
+use Rattle.std.proofs.lemmas.List.{drop_at, length-replicate}
+use Rattle.host_types.specs.Padding.{IsPadded}
+use Rattle.host_types.proofs.log_name.LogName.new.Goals as goal
+
+abbrev zeros : ℕ → List ℕ
+zeros n = replicate n 0
+
+drop_zeros : (n m : ℕ) → drop n (zeros (n + m)) ≡ zeros m
+drop_zeros zero m = ap zeros (omega arith)
+drop_zeros (suc n) m =
+    let e : suc n + m ≡ suc (n + m) = omega arith in
+    ap (λ (k : ℕ). drop (suc n) (zeros k)) e ∙ drop_zeros n m
+
+zeros_behind : (n : ℕ) → n ≤ 32 → drop n (zeros 32) ≡ zeros (32 - n)
+zeros_behind n le =
+    let e : 32 ≡ n + (32 - n) = omega arith in
+    ap (λ (k : ℕ). drop n (zeros k)) e ∙ drop_zeros n (32 - n)
+
+made : (bytes a : List ℕ) → a ≡ bytes → length bytes ≤ 32 → IsPadded (record { bytes = a ++ drop (length bytes) (zeros 32); len = length bytes })
+made bytes a is le = record {
+  long = omega (arith, length-append a (drop (length bytes) (zeros 32)), length-drop (length bytes) (zeros 32), ap length is);
+  within = le;
+  zero_behind = drop_at a (drop (length bytes) (zeros 32)) (length bytes) (ap length is) ∙ zeros_behind (length bytes) le;
+}
+
+pub invariant_of-result : goal.invariant_of-result
+invariant_of-result c = made c.args.bytes.now c.copy_from_slice.new.self (search rules) (omega arith)
