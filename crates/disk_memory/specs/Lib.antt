@@ -1,0 +1,10 @@
+pub mod History
+pub mod Kinds
+pub mod Outcomes
+pub mod Placed
+pub mod Plan
+pub mod Plans
+pub mod Schedules
+pub mod Sure
+pub mod Torn
+pub mod Versions

@@ -1,0 +1,16 @@
+//! Where a script comes from and where its answers go.
+#![tactic(auto)]
+
+mod adapters;
+mod memory;
+mod sink;
+mod source;
+mod sure;
+#[cfg(test)]
+mod tests;
+
+pub use adapters::{ReadSource, WriteSink};
+pub use memory::{MemorySink, MemorySource};
+pub use sink::{Sink, put_all};
+pub use source::{Failed, Source};
+pub use sure::{SureSink, SureSource};
