@@ -1,0 +1,12 @@
+//! The files of the current folder as a disk: the file of a log with some id is `NAME-BASE-GENERATION.log`.
+//! What a real file system does no contract can say, so this crate is a trusted edge: proved to
+//! answer as a disk that tells nothing, and tested on real files.
+#![tactic(auto)]
+
+mod disk;
+mod names;
+mod steps;
+#[cfg(test)]
+mod tests;
+
+pub use disk::FileDisk;
