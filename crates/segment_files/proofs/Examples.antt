@@ -1,0 +1,71 @@
+-- The worked bytes of the format, read.
+use Rattle.std.proofs.Common.{◌≡◌, ℕ, false, List, [], ◌∷◌, ◌++◌, take, drop, refl}
+use Rattle.disk_model.specs.declared.file_id.FileId.{FileId}
+use Rattle.segment_files.specs.Spelling.{number_at, spelling, tick_at}
+use Rattle.segment_files.specs.Parse.{Closed, Whole, Damaged, parse, parse_open, body, frame, appended_walk, descriptor_fields}
+
+abbrev eight : ℕ → List ℕ
+eight n = 0 ∷ 0 ∷ 0 ∷ 0 ∷ 0 ∷ 0 ∷ 0 ∷ n ∷ []
+
+-- the descriptor of the file that is appended to first, of which the next is begun after 1024 entries
+abbrev head : List ℕ
+head = (1 ∷ 1 ∷ 0 ∷ 0 ∷ 67 ∷ 67 ∷ 76 ∷ 71 ∷ []) ++ eight 1 ++ eight 1 ++ eight 0 ++ eight 0 ++ eight 0 ++ eight 0 ++ (0 ∷ 0 ∷ 4 ∷ 0 ∷ 0 ∷ 0 ∷ 0 ∷ 0 ∷ [])
+
+abbrev tick : ℕ → ℕ → List ℕ
+tick index time = eight index ++ eight time ++ (4 ∷ [])
+
+abbrev open_frame : List ℕ → List ℕ
+open_frame entry = (1 ∷ 0 ∷ 0 ∷ 0 ∷ 17 ∷ []) ++ entry
+
+-- the 87 bytes after one tick
+abbrev file : List ℕ
+file = head ++ open_frame (tick 1 1) ++ (0 ∷ [])
+
+abbrev id : FileId
+id = record { base = 1; generation = 1 }
+
+a_tick : parse id file ≡ Whole (record { id = id; rewritten = false; last = 1; cut = 0; floor = 0; size = 1024; entries = (1, tick_at 1) ∷ []; gate = 86 })
+unfolding parse_open number_at spelling body frame appended_walk descriptor_fields
+a_tick = refl
+
+-- a torn gate, and bytes behind it
+torn_gate : parse id (head ++ open_frame (tick 1 1) ++ (7 ∷ 9 ∷ 9 ∷ [])) ≡ parse id file
+unfolding parse_open number_at spelling body frame appended_walk descriptor_fields
+torn_gate = refl
+
+no_entries : parse id (head ++ (0 ∷ [])) ≡ Whole (record { id = id; rewritten = false; last = 0; cut = 0; floor = 0; size = 1024; entries = []; gate = 64 })
+unfolding parse_open number_at spelling body frame appended_walk descriptor_fields
+no_entries = refl
+
+cut_descriptor : parse id (take 63 head) ≡ Damaged 63
+unfolding parse_open number_at spelling body frame appended_walk descriptor_fields
+cut_descriptor = refl
+
+-- a file that ends in place of a gate
+no_gate : parse id (take 86 file) ≡ Damaged 86
+unfolding parse_open number_at spelling body frame appended_walk descriptor_fields
+no_gate = refl
+
+cut_body : parse id (take 80 file) ≡ Damaged 80
+unfolding parse_open number_at spelling body frame appended_walk descriptor_fields
+cut_body = refl
+
+wrong_index : parse id (head ++ open_frame (tick 2 1) ++ (0 ∷ [])) ≡ Damaged 69
+unfolding parse_open number_at spelling body frame appended_walk descriptor_fields
+wrong_index = refl
+
+wrong_mark : parse id (take 5 file ++ 0 ∷ drop 6 file) ≡ Damaged 4
+unfolding parse_open number_at spelling body frame appended_walk descriptor_fields
+wrong_mark = refl
+
+-- a file that a compaction wrote
+rewritten : parse id (take 2 file ++ 1 ∷ drop 3 file) ≡ Damaged 2
+unfolding parse_open number_at spelling body frame appended_walk descriptor_fields
+rewritten = refl
+
+two_entries : parse id (head ++ (1 ∷ 0 ∷ 0 ∷ 0 ∷ 34 ∷ []) ++ tick 1 1 ++ tick 2 1 ++ (0 ∷ [])) ≡ Damaged 86
+unfolding parse_open number_at spelling body frame appended_walk descriptor_fields
+two_entries = refl
+
+closed : parse id (0 ∷ drop 1 file) ≡ Closed
+closed = refl

@@ -1,0 +1,14 @@
+pub mod Opening
+pub mod Bytes
+pub mod Appending
+pub mod Closed
+pub mod Settling
+pub mod Descriptors
+pub mod Framing
+pub mod Walks
+pub mod Spelled
+pub mod Looking
+pub mod Scanning
+pub mod Wholes
+pub mod FrameLemmas
+pub mod Examples

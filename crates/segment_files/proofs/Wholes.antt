@@ -1,0 +1,70 @@
+-- What a file is, by its first bytes and its frames.
+use Rattle.std.proofs.Common.{◌≡◌, ℕ, ◌+◌, ◌-◌, ◌≤◌, true, false, List, length, take, drop, Option, Some, None, Result, Err, IsErrOf, refl, sym, ap, subst, ◌∙◌, arith}
+use Rattle.disk_model.specs.declared.file_id.FileId.{FileId}
+use Rattle.segment_files.specs.declared.descriptor.Descriptor.{Descriptor}
+use Rattle.segment_files.specs.declared.reading.FileFault.{FileFault}
+use Rattle.segment_files.specs.declared.reading.FileFault.TheVariants.{Failed, NoMemory, Damaged as Is_damaged_at}
+use Rattle.segment_files.specs.declared.reading.Contents.TheVariants.{Closed as Is_shut}
+use Rattle.segment_files.specs.declared.reading.Frames.TheVariants.{End}
+use Rattle.segment_files.specs.Files.{is_open}
+use Rattle.segment_files.specs.Spelling.{Four, number_at}
+use Rattle.segment_files.specs.Parse.{Numbered, Part, Found, Whole, Walk, Ends, Fails, appended_walk, appended_part, described, descriptor_fields, first_wrong, parse}
+use Rattle.segment_files.specs.Contents.{appended_descriptor, IsDamage, IsFailing, HasFrames, IsContents, IsOpened, IsSure, IsTrueFault, HasFileCause}
+use Rattle.segment_files.proofs.Scanning.{good_head, open_parse}
+
+module _ (id : FileId) (bytes : List ℕ) (is : is_open bytes ≡ true) (right : first_wrong (descriptor_fields id) (take 64 bytes) ≡ None) where
+  bad_part : (w : Walk) → IsFailing w → IsDamage (appended_part id (take 64 bytes) w)
+  bad_part (Ends entries gate) fails = absurd fails
+  bad_part (Fails place) fails = tt
+
+  -- frames that aren't right
+  pub bad_frames : IsFailing (appended_walk 0 (id.base - 1) (drop 64 bytes)) → IsDamage (parse id bytes)
+  bad_frames fails = subst (λ (f : Found). IsDamage f) (sym (good_head id bytes is right)) (bad_part (appended_walk 0 (id.base - 1) (drop 64 bytes)) fails)
+
+  good_part : (entries : Numbered) (gate : ℕ) → 64 ≤ gate → appended_walk 0 (id.base - 1) (drop 64 bytes) ≡ Ends entries (gate - 64)
+      → parse id bytes ≡ Whole (record { id = id; rewritten = false; last = id.base - 1 + length entries; cut = 0; floor = 0; size = number_at Four 56 (take 64 bytes); entries = entries; gate = gate })
+  good_part entries gate le walk =
+      let place : 64 + (gate - 64) ≡ gate = omega (arith, le) in
+      good_head id bytes is right
+      ∙ ap (appended_part id (take 64 bytes)) walk
+      ∙ ap (λ (k : ℕ). Whole (record { id = id; rewritten = false; last = id.base - 1 + length entries; cut = 0; floor = 0; size = number_at Four 56 (take 64 bytes); entries = entries; gate = k })) place
+
+  -- frames that are
+  pub is_part : (entries : Numbered) (gate : ℕ) → HasFrames bytes (id.base - 1) entries (End gate) → (descriptor : Descriptor) → descriptor ≡ appended_descriptor id (number_at Four 56 (take 64 bytes))
+      → (part : Part) × (parse id bytes ≡ Whole part) × (part.id ≡ id) × IsOpened part descriptor entries gate
+  is_part entries gate frames descriptor described =
+      let part : Part = record { id = id; rewritten = false; last = id.base - 1 + length entries; cut = 0; floor = 0; size = number_at Four 56 (take 64 bytes); entries = entries; gate = gate } in
+      (part, good_part entries gate frames.0 frames.1, refl, record { described = described; last = refl; entries_are = refl; gate_is = refl })
+
+-- a fault that says nothing of the file is right
+pub sure_fault : (found : Found) (fault : FileFault) → IsSure fault → IsTrueFault found fault
+sure_fault found Failed sure = tt
+sure_fault found NoMemory sure = tt
+sure_fault found (Is_damaged_at at) sure = absurd sure
+
+-- CAUSES
+
+pub cause_after : {T : Type 0} (a b d : ℕ) (r : Result T FileFault) → a ≤ b → HasFileCause b d r → HasFileCause a d r
+cause_after a b d r le cause = record { later = omega (arith, le, cause.later); failed = λ is. omega (arith, le, cause.failed is) }
+
+pub cause_passed : {T U : Type 0} (a b d : ℕ) (fault : FileFault) → a ≤ b → HasFileCause {T = T} b d (Err fault) → HasFileCause {T = U} a d (Err fault)
+cause_passed a b d fault le cause = record {
+  later = omega (arith, le, cause.later);
+  failed = λ is. let which : fault ≡ Failed = cc in omega (arith, le, cause.failed (ap (λ (f : FileFault). Err f) which));
+}
+
+pub no_cause : {T : Type 0} (a b : ℕ) (r : Result T FileFault) → a ≤ b → (IsErrOf r Failed → ⊥) → HasFileCause a b r
+no_cause a b r le none = record { later = le; failed = λ is. absurd (none is) }
+
+-- what isn't closed isn't read as closed
+shut_not : (id : FileId) (head frames : List ℕ) (o : Option ℕ) → IsContents id (described id head frames o) Is_shut → ⊥
+shut_not id head frames (Some place) is = is
+shut_not id head frames None is = by (appended_walk 0 (id.base - 1) frames) is
+  where
+    by : (w : Walk) → IsContents id (appended_part id head w) Is_shut → ⊥
+    by (Ends entries gate) is = is
+    by (Fails place) is = is
+
+pub never_shut : (id : FileId) (bytes : List ℕ) → is_open bytes ≡ true → IsContents id (parse id bytes) Is_shut → ⊥
+never_shut id bytes is shut =
+    shut_not id (take 64 bytes) (drop 64 bytes) (first_wrong (descriptor_fields id) (take 64 bytes)) (subst (λ (f : Found). IsContents id f Is_shut) (open_parse id bytes is) shut)

@@ -1,0 +1,14 @@
+use Rattle.std.proofs.Common.{◌≡◌, ◌+◌, ◌-◌, ◌*◌, ◌≤◌, length}
+use Rattle.segment_files.specs.Parse.{last_limit}
+use Rattle.segment_files.proofs.Walks.{Passed}
+use Rattle.segment_files.proofs.frames.read_window.Given as goal
+
+abbrev pub invariant-loop-at : goal.invariant-loop-at
+invariant-loop-at l = record {
+  few : length l.entries.items ≤ last_limit;
+  measured : l.at + 22 * length l.fn.entries.items ≡ 22 * length l.entries.items;
+  passed : Passed l.window (l.base - 1 + length l.fn.entries.items) l.fn.entries.items l.entries.items l.at;
+}
+
+abbrev pub decreases-loop-at : goal.decreases-loop-at
+decreases-loop-at l = length l.window - l.at

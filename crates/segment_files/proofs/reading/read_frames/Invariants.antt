@@ -1,0 +1,19 @@
+use Rattle.std.proofs.Common.{◌≡◌, ◌+◌, ◌-◌, ◌*◌, ◌≤◌, ℕ, List, length, IsTrue}
+use Rattle.disk_model.specs.Image.{place}
+use Rattle.disk_model.specs.View.{Reads}
+use Rattle.disk_model.specs.Calls.{Looks}
+use Rattle.segment_files.specs.Parse.{last_limit}
+use Rattle.segment_files.proofs.Scanning.{ScannedTo}
+use Rattle.segment_files.proofs.reading.read_frames.Given as goal
+
+abbrev pub invariant-loop-at : goal.invariant-loop-at
+invariant-loop-at g l = record {
+  looks : IsTrue g.D.Disk.tells → Looks (g.D.Disk.view l.fn.disk) (g.D.Disk.view l.disk);
+  faults : g.D.Disk.faults l.fn.disk ≤ g.D.Disk.faults l.disk;
+  few : length l.entries.items ≤ last_limit;
+  measured : l.at ≡ 64 + 22 * length l.entries.items;
+  scanned : IsTrue g.D.Disk.tells → (bytes : List ℕ) → Reads (g.D.Disk.view l.fn.disk) (place l.name l.id) bytes → ScannedTo bytes (l.id.base - 1) l.entries.items l.at;
+}
+
+abbrev pub decreases-loop-at : goal.decreases-loop-at
+decreases-loop-at g l = l.end - l.at

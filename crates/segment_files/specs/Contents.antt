@@ -1,0 +1,200 @@
+-- What a scan answers of a file, beside what its bytes are.
+use Rattle.std.specs.Prelude.{◌≡◌, ◌<◌, ◌≤◌, ◌+◌, ◌-◌, ◌*◌, ℕ, Bool, true, false, List, [], ◌∷◌, ◌++◌, length, take, drop, Option, Some, None, Result, Ok, Err, IsErrOf}
+use Rattle.std.specs.Int.{w32, w64, to_be_bytes}
+use Rattle.host_types.specs.declared.entry.Entry.{Entry}
+use Rattle.disk_model.specs.declared.disk.DiskFault.{DiskFault}
+use Rattle.disk_model.specs.declared.disk.DiskFault.TheVariants.{Failed as Disk_failed, NoMemory as Disk_no_memory}
+use Rattle.disk_model.specs.declared.file_id.FileId.{FileId}
+use Rattle.segment_files.specs.declared.descriptor.Descriptor.{Descriptor}
+use Rattle.segment_files.specs.declared.reading.FileFault.{FileFault}
+use Rattle.segment_files.specs.declared.reading.FileFault.TheVariants.{Failed, NoMemory, Damaged as Is_damaged_at}
+use Rattle.segment_files.specs.declared.reading.Contents.{Contents}
+use Rattle.segment_files.specs.declared.reading.Contents.TheVariants.{Closed as Is_shut, Open}
+use Rattle.segment_files.specs.declared.reading.Frames.{Frames}
+use Rattle.segment_files.specs.declared.reading.Frames.TheVariants.{End, Damaged as Are_damaged}
+use Rattle.segment_files.specs.declared.frames.Walked.{Walked}
+use Rattle.segment_files.specs.declared.frames.Walked.TheVariants.{Gate, Rest, Damaged as Is_damaged}
+use Rattle.segment_files.specs.declared.reading.Part.{Part as Scanned}
+use Rattle.segment_files.specs.declared.reading.Found.{Found as Answer}
+use Rattle.segment_files.specs.declared.reading.Found.TheVariants.{Closed as Is_closed, Part as Is_part}
+use Rattle.segment_files.specs.Files.{is_open}
+use Rattle.segment_files.specs.Spelling.{Four, number_at, spelled}
+use Rattle.segment_files.specs.Parse.{Numbered, Part, Found, Closed, Whole, Damaged, Frame, Framed, Crooked, frame, is_next, frame_room, last_limit, Walk, Ends, Fails, appended_walk, mark, descriptor_fields, first_wrong, parse}
+
+-- the descriptor of an appended file
+abbrev pub appended_descriptor : FileId → ℕ → Descriptor
+appended_descriptor id size = record { rewritten = false; generation = id.generation; base = id.base; last = 0; cut = 0; floor = 0; count = 0; size = size }
+
+abbrev pub flag : Bool → ℕ
+flag b = elim b [ false ↦ 0 | _ ↦ 1 ]
+
+-- the 64 bytes of a descriptor, with its gate open
+abbrev pub descriptor_bytes : Descriptor → List ℕ
+descriptor_bytes d =
+    (1 ∷ 1 ∷ flag d.rewritten ∷ 0 ∷ [])
+    ++ to_be_bytes w32 mark
+    ++ to_be_bytes w64 d.generation
+    ++ to_be_bytes w64 d.base
+    ++ to_be_bytes w64 d.last
+    ++ to_be_bytes w64 d.cut
+    ++ to_be_bytes w64 d.floor
+    ++ to_be_bytes w64 d.count
+    ++ to_be_bytes w32 d.size
+    ++ to_be_bytes w32 0
+
+-- a frame of one entry: its open gate, its length, and its body
+abbrev pub frame_bytes : ℕ → Entry → List ℕ
+frame_bytes index entry = 1 ∷ to_be_bytes w32 (length (spelled index entry)) ++ spelled index entry
+
+-- what a scan tells of a part
+pub record Shows (scanned : Scanned) (part : Part) : Type 0 where
+  pub descriptor : scanned.descriptor ≡ appended_descriptor part.id part.size
+  pub last : scanned.last ≡ part.last
+  pub entries : scanned.entries ≡ length part.entries
+  pub gate : scanned.gate ≡ part.gate
+
+abbrev pub IsFound : Answer → Found → Type 0
+IsFound Is_closed Closed = Unit {0}
+IsFound Is_closed (Whole part) = ⊥
+IsFound Is_closed (Damaged place) = ⊥
+IsFound (Is_part scanned) Closed = ⊥
+IsFound (Is_part scanned) (Whole part) = Shows scanned part
+IsFound (Is_part scanned) (Damaged place) = ⊥
+
+-- these are the entries of a part
+abbrev pub HasEntries : Found → Numbered → Type 0
+HasEntries Closed entries = ⊥
+HasEntries (Whole part) entries = part.entries ≡ entries
+HasEntries (Damaged place) entries = ⊥
+
+abbrev pub IsDamage : Found → Type 0
+IsDamage Closed = ⊥
+IsDamage (Whole part) = ⊥
+IsDamage (Damaged place) = Unit {0}
+
+-- `Failed` is told only where the disk has failed since
+pub record HasFileCause {T : Type 0} (before now : ℕ) (result : Result T FileFault) : Type 0 where
+  pub later : before ≤ now
+  pub failed : IsErrOf result Failed → before < now
+
+-- THE READING OF FRAMES, from a gate on. What is said of a window is so whatever stands behind it.
+
+abbrev pub IsCrooked : Frame → Type 0
+IsCrooked (Framed entries size) = ⊥
+IsCrooked (Crooked place) = Unit {0}
+
+abbrev pub IsFailing : Walk → Type 0
+IsFailing (Ends entries gate) = ⊥
+IsFailing (Fails place) = Unit {0}
+
+-- behind an open gate these bytes are a frame with this entry alone, or they begin no frame
+abbrev pub IsFrameOf : ℕ → List ℕ → Entry → Type 0
+IsFrameOf before behind entry = (rest : List ℕ) → frame is_next frame_room before (behind ++ rest) ≡ Framed ((before + 1, entry) ∷ []) 21
+
+abbrev pub IsNoFrame : ℕ → List ℕ → Type 0
+IsNoFrame before behind = (rest : List ℕ) → IsCrooked (frame is_next frame_room before (behind ++ rest))
+
+-- entries ahead of a walk, and how many bytes they take
+abbrev pub extended : Numbered → ℕ → Walk → Walk
+extended entries gate (Ends more at) = Ends (entries ++ more) (gate + at)
+extended entries gate (Fails at) = Fails (gate + at)
+
+-- so far these entries were read of the bytes
+abbrev pub IsWalked : List ℕ → ℕ → Numbered → Walked → Type 0
+IsWalked bytes before more (Gate at) = appended_walk 0 before bytes ≡ Ends more at
+IsWalked bytes before more (Rest at) = appended_walk 0 before bytes ≡ extended more at (appended_walk 0 (before + length more) (drop at bytes))
+IsWalked bytes before more Is_damaged = IsFailing (appended_walk 0 before bytes)
+
+-- a place that was come to is within so many bytes
+abbrev pub IsWithin : ℕ → Walked → Type 0
+IsWithin size (Gate at) = at ≤ size
+IsWithin size (Rest at) = at ≤ size
+IsWithin size Is_damaged = Unit {0}
+
+-- a place that was come to lies behind the frames of the new entries
+abbrev pub IsMeasured : ℕ → ℕ → Walked → Type 0
+IsMeasured old new (Gate at) = at + 22 * old ≡ 22 * new
+IsMeasured old new (Rest at) = at + 22 * old ≡ 22 * new
+IsMeasured old new Is_damaged = Unit {0}
+
+-- where nothing was read, these bytes alone are no frame
+abbrev pub IsStuck : List ℕ → ℕ → Walked → Type 0
+IsStuck bytes before walked = walked ≡ Rest 0 → IsFailing (appended_walk 0 before bytes)
+
+pub record ReadsWindow (window : List ℕ) (before : ℕ) (old new : Numbered) (walked : Walked) : Type 0 where
+  pub more : Numbered
+  pub items : new ≡ old ++ more
+  pub within : IsWithin (length window) walked
+  pub walk : (rest : List ℕ) → IsWalked (window ++ rest) before more walked
+  pub stuck : IsStuck window before walked
+  pub less : walked ≡ Rest 0 → length window < 22
+
+-- the same of a piece of these bytes, which are all that is left of a file
+pub record ReadsPiece (bytes : List ℕ) (before : ℕ) (old new : Numbered) (walked : Walked) : Type 0 where
+  pub more : Numbered
+  pub items : new ≡ old ++ more
+  pub walk : IsWalked bytes before more walked
+  pub stuck : IsStuck bytes before walked
+
+-- these are the frames of a file
+abbrev pub HasFrames : List ℕ → ℕ → Numbered → Frames → Type 0
+HasFrames bytes before entries (End gate) = (64 ≤ gate) × (appended_walk 0 before (drop 64 bytes) ≡ Ends entries (gate - 64))
+HasFrames bytes before entries Are_damaged = IsFailing (appended_walk 0 before (drop 64 bytes))
+
+-- the gate stands behind the frames of so many entries
+abbrev pub IsLong : ℕ → Frames → Type 0
+IsLong count (End gate) = gate ≡ 64 + 22 * count
+IsLong count Are_damaged = Unit {0}
+
+-- THE READING OF A FILE
+
+-- which fault a disk's is
+abbrev pub file_fault : DiskFault → FileFault
+file_fault Disk_failed = Failed
+file_fault Disk_no_memory = NoMemory
+
+-- a fault that says that a file is damaged is right
+abbrev pub IsTrueFault : Found → FileFault → Type 0
+IsTrueFault found Failed = Unit {0}
+IsTrueFault found NoMemory = Unit {0}
+IsTrueFault found (Is_damaged_at at) = (at ≡ 0) × IsDamage found
+
+-- a fault that says nothing of the file
+abbrev pub IsSure : FileFault → Type 0
+IsSure Failed = Unit {0}
+IsSure NoMemory = Unit {0}
+IsSure (Is_damaged_at at) = ⊥
+
+-- what the first bytes tell
+abbrev pub IsHead : FileId → List ℕ → Result (Option Descriptor) FileFault → Type 0
+IsHead id bytes (Ok None) = is_open bytes ≡ false
+IsHead id bytes (Ok (Some descriptor)) =
+    (is_open bytes ≡ true) × (descriptor ≡ appended_descriptor id (number_at Four 56 (take 64 bytes))) × (first_wrong (descriptor_fields id) (take 64 bytes) ≡ None)
+IsHead id bytes (Err fault) = IsTrueFault (parse id bytes) fault
+
+-- what is read of a part
+pub record IsOpened (part : Part) (descriptor : Descriptor) (entries : Numbered) (gate : ℕ) : Type 0 where
+  pub described : descriptor ≡ appended_descriptor part.id part.size
+  pub last : part.last ≡ part.id.base - 1 + length part.entries
+  pub entries_are : part.entries ≡ entries
+  pub gate_is : part.gate ≡ gate
+
+abbrev pub IsContents : FileId → Found → Contents → Type 0
+IsContents id Closed Is_shut = Unit {0}
+IsContents id Closed (Open descriptor entries gate) = ⊥
+IsContents id (Whole part) Is_shut = ⊥
+IsContents id (Whole part) (Open descriptor entries gate) = (part.id ≡ id) × IsOpened part descriptor entries.items gate
+IsContents id (Damaged place) contents = ⊥
+
+abbrev pub IsRead : FileId → Found → Result Contents FileFault → Type 0
+IsRead id found (Ok contents) = IsContents id found contents
+IsRead id found (Err fault) = IsTrueFault found fault
+
+abbrev pub HasFew : Contents → Type 0
+HasFew Is_shut = Unit {0}
+HasFew (Open descriptor entries gate) = (length entries.items ≤ last_limit) × (gate ≡ 64 + 22 * length entries.items)
+
+-- how far a part reaches, whatever the disk tells
+abbrev pub IsBounded : FileId → Answer → Type 0
+IsBounded id Is_closed = Unit {0}
+IsBounded id (Is_part part) = (part.last ≡ id.base - 1 + part.entries) × (part.gate ≡ 64 + 22 * part.entries) × (part.entries ≤ last_limit)

@@ -1,0 +1,5 @@
+pub mod Contents
+pub mod Files
+pub mod Folder
+pub mod Parse
+pub mod Spelling

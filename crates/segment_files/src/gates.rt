@@ -1,0 +1,81 @@
+// A gate is a byte that stands shut on the disk before anything behind it counts.
+ghost use Rattle.std.specs.Prelude.{◌≡◌, ◌≢◌, ◌<◌, ◌≤◌, ◌+◌, ◌^◌, ℕ, List, [], ◌∷◌, ◌++◌, length, IsTrue, IfOk, OnOk};
+ghost use Rattle.disk_model.specs.Image.{IsFileId, place, written};
+ghost use Rattle.disk_model.specs.View.{LeavesAt, HasCause, Reads};
+ghost use Rattle.segment_files.specs.Files.{IsShut, KeepsOthers, OrGate, Becomes, IsAtGate, OrFrame, appended, then_shut};
+
+use disk_model::{Disk, DiskFault, FileId};
+use host_types::LogName;
+use std::alloc::Global;
+
+/// Opens a gate, once all that stands behind it is on the disk: sync, write 1 at `at`, sync.
+pub fn open_gate<D: Disk>(
+    disk: &mut D,
+    name: &LogName,
+    id: FileId,
+    at: u64,
+) -> Result<(), DiskFault>
+    requires id { IsFileId id }
+    requires shut { IsTrue D.tells → IsShut (D.view disk.old) (place name.now id) at }
+    ensures opened { OnOk result (IsTrue D.tells → (b : List ℕ) → Reads (D.view disk.old) (place name.now id) b
+        → Becomes (D.view disk.old) (D.view disk.new) (place name.now id) (written b at (1 ∷ []))) }
+    ensures any_moment { IsTrue D.tells → LeavesAt (D.view disk.old) (D.view disk.new) (OrGate (D.view disk.old) (place name.now id) at) }
+    ensures others { IsTrue D.tells → KeepsOthers (D.view disk.old) (D.view disk.new) (place name.now id) }
+    ensures cause { HasCause (D.faults disk.old) (D.faults disk.new) result }
+{
+    disk.sync(name, id)?;
+    disk.write_at(name, id, at, &[1])?;
+    disk.sync(name, id)
+}
+
+/// Writes what stands behind a shut gate, with a shut gate at its end, and then opens the first gate.
+fn write_behind<D: Disk>(
+    disk: &mut D,
+    name: &LogName,
+    id: FileId,
+    gate: u64,
+    behind: &[u8],
+) -> Result<u64, DiskFault>
+    requires id { IsFileId id }
+    requires at_gate { IsTrue D.tells → IsAtGate (D.view disk.old) (place name.now id) gate }
+    requires some { 0 < length behind.now }
+    requires room { gate + length behind.now < 2 ^ 64 }
+    ensures gate { IfOk result (λ next. next ≡ gate + length behind.now) }
+    ensures appended { OnOk result (IsTrue D.tells → (b : List ℕ) → Reads (D.view disk.old) (place name.now id) b
+        → Becomes (D.view disk.old) (D.view disk.new) (place name.now id) (appended b gate behind.now)) }
+    ensures any_moment { IsTrue D.tells → LeavesAt (D.view disk.old) (D.view disk.new) (OrFrame (D.view disk.old) (place name.now id) gate behind.now) }
+    ensures others { IsTrue D.tells → KeepsOthers (D.view disk.old) (D.view disk.new) (place name.now id) }
+    ensures cause { HasCause (D.faults disk.old) (D.faults disk.new) result }
+{
+    disk.write_at(name, id, gate + 1, behind)?;
+    open_gate(disk, name, id, gate)?;
+    Ok(gate + behind.len() as u64)
+}
+
+/// Appends a frame to a file whose shut gate stands at `gate`. The frame, which begins with its open gate, is written
+/// behind the shut one together with the next shut gate, and synced; then the gate is opened. A crash at any moment
+/// leaves the frame whole or absent. Answers the place of the new gate.
+pub fn append_frame<D: Disk>(
+    alloc: Global,
+    disk: &mut D,
+    name: &LogName,
+    id: FileId,
+    gate: u64,
+    frame: &[u8],
+) -> Result<u64, DiskFault>
+    requires id { IsFileId id }
+    requires at_gate { IsTrue D.tells → IsAtGate (D.view disk.old) (place name.now id) gate }
+    requires open { (rest : List ℕ) × (frame.now ≡ 1 ∷ rest) }
+    requires room { gate + length frame.now < 2 ^ 64 }
+    ensures gate { IfOk result (λ next. next ≡ gate + length frame.now) }
+    ensures appended { OnOk result (IsTrue D.tells → (b rest : List ℕ) → frame.now ≡ 1 ∷ rest → Reads (D.view disk.old) (place name.now id) b
+        → Becomes (D.view disk.old) (D.view disk.new) (place name.now id) (appended b gate (then_shut rest))) }
+    ensures any_moment { IsTrue D.tells → (rest : List ℕ) → frame.now ≡ 1 ∷ rest
+        → LeavesAt (D.view disk.old) (D.view disk.new) (OrFrame (D.view disk.old) (place name.now id) gate (then_shut rest)) }
+    ensures others { IsTrue D.tells → KeepsOthers (D.view disk.old) (D.view disk.new) (place name.now id) }
+    ensures cause { HasCause (D.faults disk.old) (D.faults disk.new) result }
+{
+    let mut behind = frame[1..].to_vec(alloc)?;
+    behind.push(0)?;
+    write_behind(disk, name, id, gate, &behind)
+}

@@ -1,0 +1,17 @@
+//! The files of a log: how they are made, appended to and read.
+#![tactic(auto)]
+
+mod descriptor;
+mod frames;
+mod gates;
+mod numbers;
+mod reading;
+mod settle;
+mod tails;
+
+pub use descriptor::Descriptor;
+pub use frames::tick_frame;
+pub use gates::{append_frame, open_gate};
+pub use reading::{FileFault, Found, Part, entries, scan};
+pub use settle::settle_all;
+pub use tails::{create_closed, fill, make_tail};

@@ -1,0 +1,308 @@
+// What a file holds, read from its start to its first gate that isn't open.
+ghost use Rattle.std.specs.Prelude.{◌≡◌, ◌+◌, ◌-◌, ◌<◌, ◌≤◌, ℕ, List, [], length, drop, IsTrue, IsErrOf, IfOk, IfErr};
+ghost use Rattle.disk_model.specs.Image.{IsFileId, place};
+ghost use Rattle.disk_model.specs.View.{LeavesAt, MayHold, Reads, IsListed};
+ghost use Rattle.disk_model.specs.Calls.{Looks, Stays};
+ghost use Rattle.segment_files.specs.Files.{is_open};
+ghost use Rattle.segment_files.specs.Parse.{last_limit, parse};
+ghost use Rattle.segment_files.specs.declared.reading.FileFault.TheVariants.{NoMemory};
+ghost use Rattle.segment_files.specs.Contents.{HasEntries, HasFew, IsBounded, IsLong, IsMeasured, HasFileCause, HasFrames, IsDamage, IsFound, IsHead, IsRead, IsSure, IsWithin, ReadsPiece, file_fault};
+
+use crate::descriptor::Descriptor;
+use crate::frames::{TICK_FRAME, Walked, read_window};
+use disk_model::{Disk, DiskFault, FileId};
+use host_types::{Entry, Index, LogName, NoMemory as OutOfMemory};
+use std::alloc::{AllocError, Global};
+
+/// Why a file can't be read.
+#[derive(Clone, Copy, Debug, PartialEq, Eq)]
+pub enum FileFault {
+    /// The disk failed.
+    Failed,
+    /// The file's gate is open, and what it holds isn't right. The place is 0 for now, wherever it is.
+    Damaged { at: u64 },
+    /// No memory was left.
+    NoMemory,
+}
+
+/// A file that is part of a log.
+#[derive(Clone, Copy, Debug, PartialEq, Eq)]
+pub struct Part {
+    pub descriptor: Descriptor,
+    /// The index of its last entry, or one less than its base where it has none.
+    pub last: Index,
+    /// How many entries it has.
+    pub entries: u64,
+    /// The place of its first gate that isn't open. The next frame goes there.
+    pub gate: u64,
+}
+
+/// What a file is.
+#[derive(Clone, Copy, Debug, PartialEq, Eq)]
+pub enum Found {
+    /// Its gate isn't open: it stands for nothing.
+    Closed,
+    Part(Part),
+}
+
+/// A file as it is read.
+#[derive(Drop)]
+enum Contents {
+    Closed,
+    Open {
+        descriptor: Descriptor,
+        entries: Vec<(Index, Entry)>,
+        gate: u64,
+    },
+}
+
+/// What the frames of a file are.
+#[derive(Clone, Copy, Debug, PartialEq, Eq)]
+enum Frames {
+    /// They end at this place, before a gate that isn't open.
+    End { gate: u64 },
+    Damaged,
+}
+
+/// How many bytes are read at once: so many frames with one tick.
+const PIECE: usize = 2978 * TICK_FRAME;
+
+impl From<DiskFault> for FileFault {
+    ghost from_gives = { λ fault e. e ≡ file_fault fault };
+
+    fn from(fault: DiskFault) -> Self {
+        match fault {
+            DiskFault::Failed => FileFault::Failed,
+            DiskFault::NoMemory => FileFault::NoMemory,
+        }
+    }
+}
+
+impl From<AllocError> for FileFault {
+    ghost from_gives = { λ _ e. e ≡ NoMemory };
+
+    fn from(_: AllocError) -> Self {
+        FileFault::NoMemory
+    }
+}
+
+impl From<OutOfMemory> for FileFault {
+    ghost from_gives = { λ _ e. e ≡ NoMemory };
+
+    fn from(_: OutOfMemory) -> Self {
+        FileFault::NoMemory
+    }
+}
+
+/// Reads the first 64 bytes of a file. Answers its descriptor, or nothing where its gate isn't open.
+fn read_head<D: Disk>(
+    disk: &mut D,
+    name: &LogName,
+    id: FileId,
+) -> Result<Option<Descriptor>, FileFault>
+    requires id { IsFileId id }
+    requires listed { IsTrue D.tells → IsListed (D.view disk.old) (place name.now id) }
+    ensures head { IsTrue D.tells → (bytes : List ℕ) → Reads (D.view disk.old) (place name.now id) bytes → IsHead id bytes result }
+    ensures told { IsTrue D.tells → Looks (D.view disk.old) (D.view disk.new) }
+    ensures cause { HasFileCause (D.faults disk.old) (D.faults disk.new) result }
+{
+    let mut head = [0u8; Descriptor::LENGTH];
+    let count = disk.read(name, id, 0, &mut head)?;
+    if count < 2 || head[0] != 1 {
+        return Ok(None);
+    }
+    if count < Descriptor::LENGTH {
+        return Err(FileFault::Damaged { at: 0 });
+    }
+    match Descriptor::read(id, &head) {
+        Some(descriptor) => Ok(Some(descriptor)),
+        None => Err(FileFault::Damaged { at: 0 }),
+    }
+}
+
+/// Reads the next piece of a file, which ends at `end`, from the gate at `at` on. A piece that comes shorter than it was
+/// asked for is damaged.
+fn read_piece<D: Disk>(
+    disk: &mut D,
+    name: &LogName,
+    id: FileId,
+    at: u64,
+    end: u64,
+    buffer: &mut [u8],
+    entries: &mut Vec<(Index, Entry)>,
+) -> Result<Walked, FileFault>
+    requires id { IsFileId id }
+    requires listed { IsTrue D.tells → IsListed (D.view disk.old) (place name.now id) }
+    requires within { at < end }
+    requires end { IsTrue D.tells → (bytes : List ℕ) → Reads (D.view disk.old) (place name.now id) bytes → end ≡ length bytes }
+    requires buffer { 22 ≤ length buffer.old }
+    requires few { length entries.old.items ≤ last_limit }
+    ensures few { IfOk result (λ walked. length entries.new.items ≤ last_limit) }
+    ensures within { IfOk result (IsWithin (end - at)) }
+    ensures measured { IfOk result (IsMeasured (length entries.old.items) (length entries.new.items)) }
+    ensures sure { IfErr result IsSure }
+    ensures reads { IsTrue D.tells → (bytes : List ℕ) → Reads (D.view disk.old) (place name.now id) bytes
+        → IfOk result (ReadsPiece (drop at bytes) (id.base - 1 + length entries.old.items) entries.old.items entries.new.items) }
+    ensures told { IsTrue D.tells → Looks (D.view disk.old) (D.view disk.new) }
+    ensures cause { HasFileCause (D.faults disk.old) (D.faults disk.new) result }
+{
+    let want = (end - at).min(buffer.len() as u64) as usize;
+    let window = &mut buffer[..want];
+    let count = disk.read(name, id, at, window)?;
+    if count < want {
+        return Ok(Walked::Damaged);
+    }
+    let walked = read_window(id.base, window, entries)?;
+    Ok(walked)
+}
+
+/// Reads the frames of a file, which ends at `end`, from one piece to the next.
+fn read_frames<D: Disk>(
+    disk: &mut D,
+    name: &LogName,
+    id: FileId,
+    end: u64,
+    buffer: &mut [u8],
+    entries: &mut Vec<(Index, Entry)>,
+) -> Result<Frames, FileFault>
+    requires id { IsFileId id }
+    requires listed { IsTrue D.tells → IsListed (D.view disk.old) (place name.now id) }
+    requires end { IsTrue D.tells → (bytes : List ℕ) → Reads (D.view disk.old) (place name.now id) bytes → end ≡ length bytes }
+    requires buffer { 22 ≤ length buffer.old }
+    requires none { entries.old.items ≡ [] }
+    ensures few { IfOk result (λ frames. length entries.new.items ≤ last_limit) }
+    ensures measured { IfOk result (IsLong (length entries.new.items)) }
+    ensures frames { IsTrue D.tells → (bytes : List ℕ) → Reads (D.view disk.old) (place name.now id) bytes
+        → IfOk result (HasFrames bytes (id.base - 1) entries.new.items) }
+    ensures sure { IfErr result IsSure }
+    ensures told { IsTrue D.tells → Looks (D.view disk.old) (D.view disk.new) }
+    ensures cause { HasFileCause (D.faults disk.old) (D.faults disk.new) result }
+{
+    let mut at = 64;
+    while at < end {
+        match read_piece(disk, name, id, at, end, buffer, entries)? {
+            Walked::Gate { at: behind } => {
+                return Ok(Frames::End {
+                    gate: at + behind as u64,
+                });
+            }
+            Walked::Damaged => return Ok(Frames::Damaged),
+            Walked::Rest { at: behind } => {
+                if behind == 0 {
+                    return Ok(Frames::Damaged);
+                }
+                at += behind as u64;
+            }
+        }
+    }
+    Ok(Frames::Damaged)
+}
+
+/// Reads what stands behind the first bytes of a file, which are this descriptor.
+fn read_part<D: Disk>(
+    alloc: Global,
+    disk: &mut D,
+    name: &LogName,
+    id: FileId,
+    descriptor: Descriptor,
+) -> Result<Contents, FileFault>
+    requires id { IsFileId id }
+    requires listed { IsTrue D.tells → IsListed (D.view disk.old) (place name.now id) }
+    ensures few { IfOk result HasFew }
+    ensures found { IsTrue D.tells → (bytes : List ℕ) → Reads (D.view disk.old) (place name.now id) bytes
+        → IsHead id bytes (Ok (Some descriptor)) → IsRead id (parse id bytes) result }
+    ensures told { IsTrue D.tells → Looks (D.view disk.old) (D.view disk.new) }
+    ensures cause { HasFileCause (D.faults disk.old) (D.faults disk.new) result }
+{
+    let end = disk.length(name, id)?;
+    let mut buffer = vec![in alloc; 0u8; PIECE]?;
+    let mut entries = Vec::new(alloc);
+    match read_frames(disk, name, id, end, &mut buffer, &mut entries)? {
+        Frames::Damaged => Err(FileFault::Damaged { at: 0 }),
+        Frames::End { gate } => Ok(Contents::Open {
+            descriptor,
+            entries,
+            gate,
+        }),
+    }
+}
+
+/// Reads a file: its first bytes, and then its frames.
+fn read_file<D: Disk>(
+    alloc: Global,
+    disk: &mut D,
+    name: &LogName,
+    id: FileId,
+) -> Result<Contents, FileFault>
+    requires id { IsFileId id }
+    requires listed { IsTrue D.tells → IsListed (D.view disk.old) (place name.now id) }
+    ensures few { IfOk result HasFew }
+    ensures found { IsTrue D.tells → (bytes : List ℕ) → Reads (D.view disk.old) (place name.now id) bytes → IsRead id (parse id bytes) result }
+    ensures told { IsTrue D.tells → Looks (D.view disk.old) (D.view disk.new) }
+    ensures cause { HasFileCause (D.faults disk.old) (D.faults disk.new) result }
+{
+    match read_head(disk, name, id)? {
+        Some(descriptor) => read_part(alloc, disk, name, id, descriptor),
+        None => Ok(Contents::Closed),
+    }
+}
+
+/// Reads a file, and says what it is. It reads in pieces, each byte once.
+pub fn scan<D: Disk>(
+    alloc: Global,
+    disk: &mut D,
+    name: &LogName,
+    id: FileId,
+) -> Result<Found, FileFault>
+    requires id { IsFileId id }
+    requires listed { IsTrue D.tells → IsListed (D.view disk.old) (place name.now id) }
+    ensures found { IsTrue D.tells → (bytes : List ℕ) → Reads (D.view disk.old) (place name.now id) bytes
+        → IfOk result (λ found. IsFound found (parse id bytes)) }
+    ensures damaged { IsTrue D.tells → (bytes : List ℕ) → Reads (D.view disk.old) (place name.now id) bytes
+        → (at : ℕ) → IsErrOf result (FileFault.Damaged at) → (at ≡ 0) × IsDamage (parse id bytes) }
+    ensures stays { IsTrue D.tells → Stays (D.view disk.old) (D.view disk.new) }
+    ensures any_moment { IsTrue D.tells → LeavesAt (D.view disk.old) (D.view disk.new) (MayHold (D.view disk.old)) }
+    ensures bounds { IfOk result (IsBounded id) }
+    ensures cause { HasFileCause (D.faults disk.old) (D.faults disk.new) result }
+{
+    match read_file(alloc, disk, name, id)? {
+        Contents::Closed => Ok(Found::Closed),
+        Contents::Open {
+            descriptor,
+            entries,
+            gate,
+        } => {
+            let count = entries.len() as u64;
+            Ok(Found::Part(Part {
+                descriptor,
+                last: id.base - 1 + count,
+                entries: count,
+                gate,
+            }))
+        }
+    }
+}
+
+/// The entries of a file whose gate is open, in order, with their indexes.
+pub fn entries<D: Disk>(
+    alloc: Global,
+    disk: &mut D,
+    name: &LogName,
+    id: FileId,
+) -> Result<Vec<(Index, Entry)>, FileFault>
+    requires id { IsFileId id }
+    requires listed { IsTrue D.tells → IsListed (D.view disk.old) (place name.now id) }
+    requires open { IsTrue D.tells → (bytes : List ℕ) → Reads (D.view disk.old) (place name.now id) bytes → IsTrue (is_open bytes) }
+    ensures entries { IsTrue D.tells → (bytes : List ℕ) → Reads (D.view disk.old) (place name.now id) bytes
+        → IfOk result (λ entries. HasEntries (parse id bytes) entries.items) }
+    ensures damaged { IsTrue D.tells → (bytes : List ℕ) → Reads (D.view disk.old) (place name.now id) bytes
+        → (at : ℕ) → IsErrOf result (FileFault.Damaged at) → (at ≡ 0) × IsDamage (parse id bytes) }
+    ensures stays { IsTrue D.tells → Stays (D.view disk.old) (D.view disk.new) }
+    ensures any_moment { IsTrue D.tells → LeavesAt (D.view disk.old) (D.view disk.new) (MayHold (D.view disk.old)) }
+    ensures cause { HasFileCause (D.faults disk.old) (D.faults disk.new) result }
+{
+    match read_file(alloc, disk, name, id)? {
+        Contents::Closed => Err(FileFault::Damaged { at: 0 }),
+        Contents::Open { entries, .. } => Ok(entries),
+    }
+}
