@@ -9,7 +9,7 @@ use Rattle.segment_files.specs.declared.reading.Frames.TheVariants.{End}
 use Rattle.segment_files.specs.Files.{is_open}
 use Rattle.segment_files.specs.Spelling.{Four, number_at}
 use Rattle.segment_files.specs.Parse.{Numbered, Part, Found, Whole, Walk, Ends, Fails, appended_walk, appended_part, described, descriptor_fields, first_wrong, parse}
-use Rattle.segment_files.specs.Contents.{appended_descriptor, IsDamage, IsFailing, HasFrames, IsContents, IsOpened, IsSure, IsTrueFault, HasFileCause}
+use Rattle.segment_files.specs.Contents.{appended_descriptor, IsDamage, IsFailing, HasFrames, IsContents, IsOpened, IsNoDamage, IsTrueFault, HasFileCause}
 use Rattle.segment_files.proofs.Scanning.{good_head, open_parse}
 
 module _ (id : FileId) (bytes : List ℕ) (is : is_open bytes ≡ true) (right : first_wrong (descriptor_fields id) (take 64 bytes) ≡ None) where
@@ -37,10 +37,10 @@ module _ (id : FileId) (bytes : List ℕ) (is : is_open bytes ≡ true) (right :
       (part, good_part entries gate frames.0 frames.1, refl, record { described = described; last = refl; entries_are = refl; gate_is = refl })
 
 -- a fault that says nothing of the file is right
-pub sure_fault : (found : Found) (fault : FileFault) → IsSure fault → IsTrueFault found fault
-sure_fault found Failed sure = tt
-sure_fault found NoMemory sure = tt
-sure_fault found (Is_damaged_at at) sure = absurd sure
+pub other_fault : (found : Found) (fault : FileFault) → IsNoDamage fault → IsTrueFault found fault
+other_fault found Failed none = tt
+other_fault found NoMemory none = tt
+other_fault found (Is_damaged_at at) none = absurd none
 
 -- CAUSES
 

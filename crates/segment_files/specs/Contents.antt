@@ -160,10 +160,10 @@ IsTrueFault found NoMemory = Unit {0}
 IsTrueFault found (Is_damaged_at at) = (at ≡ 0) × IsDamage found
 
 -- a fault that says nothing of the file
-abbrev pub IsSure : FileFault → Type 0
-IsSure Failed = Unit {0}
-IsSure NoMemory = Unit {0}
-IsSure (Is_damaged_at at) = ⊥
+abbrev pub IsNoDamage : FileFault → Type 0
+IsNoDamage Failed = Unit {0}
+IsNoDamage NoMemory = Unit {0}
+IsNoDamage (Is_damaged_at at) = ⊥
 
 -- what the first bytes tell
 abbrev pub IsHead : FileId → List ℕ → Result (Option Descriptor) FileFault → Type 0

@@ -6,7 +6,7 @@ ghost use Rattle.disk_model.specs.Calls.{Looks, Stays};
 ghost use Rattle.segment_files.specs.Files.{is_open};
 ghost use Rattle.segment_files.specs.Parse.{last_limit, parse};
 ghost use Rattle.segment_files.specs.declared.reading.FileFault.TheVariants.{NoMemory};
-ghost use Rattle.segment_files.specs.Contents.{HasEntries, HasFew, IsBounded, IsLong, IsMeasured, HasFileCause, HasFrames, IsDamage, IsFound, IsHead, IsRead, IsSure, IsWithin, ReadsPiece, file_fault};
+ghost use Rattle.segment_files.specs.Contents.{HasEntries, HasFew, IsBounded, IsLong, IsMeasured, HasFileCause, HasFrames, IsDamage, IsFound, IsHead, IsRead, IsNoDamage, IsWithin, ReadsPiece, file_fault};
 
 use crate::descriptor::Descriptor;
 use crate::frames::{TICK_FRAME, Walked, read_window};
@@ -140,7 +140,7 @@ fn read_piece<D: Disk>(
     ensures few { IfOk result (λ walked. length entries.new.items ≤ last_limit) }
     ensures within { IfOk result (IsWithin (end - at)) }
     ensures measured { IfOk result (IsMeasured (length entries.old.items) (length entries.new.items)) }
-    ensures sure { IfErr result IsSure }
+    ensures no_damage { IfErr result IsNoDamage }
     ensures reads { IsTrue D.tells → (bytes : List ℕ) → Reads (D.view disk.old) (place name.now id) bytes
         → IfOk result (ReadsPiece (drop at bytes) (id.base - 1 + length entries.old.items) entries.old.items entries.new.items) }
     ensures told { IsTrue D.tells → Looks (D.view disk.old) (D.view disk.new) }
@@ -174,7 +174,7 @@ fn read_frames<D: Disk>(
     ensures measured { IfOk result (IsLong (length entries.new.items)) }
     ensures frames { IsTrue D.tells → (bytes : List ℕ) → Reads (D.view disk.old) (place name.now id) bytes
         → IfOk result (HasFrames bytes (id.base - 1) entries.new.items) }
-    ensures sure { IfErr result IsSure }
+    ensures no_damage { IfErr result IsNoDamage }
     ensures told { IsTrue D.tells → Looks (D.view disk.old) (D.view disk.new) }
     ensures cause { HasFileCause (D.faults disk.old) (D.faults disk.new) result }
 {

@@ -7,7 +7,7 @@ use Rattle.segment_files.specs.declared.reading.Frames.{Frames}
 use Rattle.segment_files.specs.Parse.{Found, parse}
 use Rattle.segment_files.specs.Contents.{HasFrames, IsContents}
 use Rattle.segment_files.proofs.Looking.{looks_then, reads_still, read_before, listed_still}
-use Rattle.segment_files.proofs.Wholes.{bad_frames, is_part, sure_fault, cause_passed, no_cause}
+use Rattle.segment_files.proofs.Wholes.{bad_frames, is_part, other_fault, cause_passed, no_cause}
 use Rattle.segment_files.proofs.reading.read_part.Goals as goal
 
 pub read_frames-requires-clause-listed : goal.read_frames-requires-clause-listed
@@ -23,7 +23,7 @@ read_frames-requires-clause-end g c = λ t bytes reads.
 pub returns-in_err-read_frames-clause-found : goal.returns-in_err-read_frames-clause-found
 returns-in_err-read_frames-clause-found g c =
     let p = err_from_is_err_and c.from_residual-in_err-read_frames.result c.from_residual-in_err-read_frames.ensures.1 in
-    rw (p.1, p.2) (λ t bytes reads head. sure_fault (parse c.args.id bytes) c.in_err-read_frames.field-0.0 c.in_err-read_frames.ensures.sure)
+    rw (p.1, p.2) (λ t bytes reads head. other_fault (parse c.args.id bytes) c.in_err-read_frames.field-0.0 c.in_err-read_frames.ensures.no_damage)
 
 pub returns-in_err-read_frames-clause-told : goal.returns-in_err-read_frames-clause-told
 returns-in_err-read_frames-clause-told g c = λ t.

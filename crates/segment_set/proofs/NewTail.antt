@@ -1,0 +1,66 @@
+-- A new tail over the images that a crash may leave.
+use Rattle.std.proofs.Common.{◌≡◌, ◌≢◌, ◌⊎◌, inl, inr, ⊎_elim, ℕ, ◌+◌, List, [], ◌∷◌, length, get_or, Some, sym, ap, subst, ◌∙◌, arith, length-append}
+use Rattle.std.proofs.lemmas.List.{get_or_at}
+use Rattle.disk_model.specs.declared.file_id.FileId.{FileId}
+use Rattle.disk_model.specs.Image.{Place, Image, place}
+use Rattle.disk_model.specs.View.{View, MayHold, MayLeave, IsSound, LeavesAt, LeavesOnly}
+use Rattle.disk_model.proofs.Moments.{weaker}
+use Rattle.segment_files.specs.Files.{OrWhole, Becomes, IsAtGate, then_shut}
+use Rattle.segment_files.specs.Parse.{Part, Closed, Whole, parse}
+use Rattle.segment_files.specs.Folder.{found, folder, IsChoice, EachHas}
+use Rattle.segment_set.specs.Growth.{HasNoneOr}
+use Rattle.segment_set.proofs.Images.{as_read, as_read_may, differ, kept_at, one_part, no_part, all_closed}
+use Rattle.segment_set.proofs.Appended.{parse_id, parse_shut}
+
+module _ (v : View) (name : List ℕ) (id : FileId) (behind : List ℕ) (new : Part) (sound : IsSound v) (whole : parse id (1 ∷ behind) ≡ Whole new) where
+  new_id : new.id ≡ id
+  new_id = parse_id id (1 ∷ behind) new whole
+
+  pub reads_new : (e : View) → Becomes v e (place name id) (1 ∷ behind) → folder name e.reading id ≡ Whole new
+  reads_new e becomes = ap (found id) becomes.reads ∙ whole
+
+  module _ (each : EachHas v name []) (c : Image) (others : (q : Place) → q ≢ place name id → MayHold v q (c q)) where
+    closed_beside : (other : FileId) → (folder name c other ≡ Closed) ⊎ (other ≡ id)
+    closed_beside other = ⊎_elim
+        (λ same. inl (same ∙ all_closed (folder name (as_read v (place name id) c)) (each (as_read v (place name id) c) (as_read_may v (place name id) c sound others)) other))
+        (λ at. inr at)
+        (differ v name id c other)
+
+    still_shut : folder name c id ≡ Closed → IsChoice (folder name c) []
+    still_shut shut = no_part (folder name c) (λ other. ⊎_elim (λ closed. closed) (λ at. ap (folder name c) at ∙ shut) (closed_beside other))
+
+    gains : c (place name id) ≡ Some (1 ∷ behind) → IsChoice (folder name c) (new ∷ [])
+    gains is = one_part (folder name c) new (ap (folder name c) new_id ∙ ap (found id) is ∙ whole)
+        (λ other. ⊎_elim (λ closed. inl closed) (λ at. inr (at ∙ sym new_id)) (closed_beside other))
+
+  stands : EachHas v name [] → (c : Image) → ((q : Place) → OrWhole v (place name id) (1 ∷ behind) q (c q)) → HasNoneOr name new c
+  stands each c left = at (left (place name id))
+    where
+      others : (q : Place) → q ≢ place name id → MayHold v q (c q)
+      others q ne = ⊎_elim (λ closed. ⊎_elim (λ was. was) (λ here. absurd (ne here.1)) closed) (λ here. absurd (ne here.0)) (left q)
+
+      all : MayHold v (place name id) (c (place name id)) → MayLeave v c
+      all held q = ⊎_elim
+          (λ closed. ⊎_elim (λ was. was) (λ here. subst (λ (s : Place). MayHold v s (c s)) (sym here.1) held) closed)
+          (λ here. subst (λ (s : Place). MayHold v s (c s)) (sym here.0) held) (left q)
+
+      at : OrWhole v (place name id) (1 ∷ behind) (place name id) (c (place name id)) → HasNoneOr name new c
+      at (inl (inl held)) = inl (each c (all held))
+      at (inl (inr shut)) = inl (still_shut each c others (ap (found id) shut.2 ∙ parse_shut id shut.0 shut.3))
+      at (inr opens) = inr (gains each c others opens.1)
+
+  pub tailing : (e : View) → EachHas v name [] → LeavesAt v e (OrWhole v (place name id) (1 ∷ behind)) → LeavesOnly v e (HasNoneOr name new)
+  tailing e each only = weaker v e (λ c. (q : Place) → OrWhole v (place name id) (1 ∷ behind) q (c q)) (HasNoneOr name new) only (stands each)
+
+  pub tailed : (e : View) → EachHas v name [] → Becomes v e (place name id) (1 ∷ behind) → EachHas e name (new ∷ [])
+  tailed e each becomes c may = gains each c (λ q ne. kept_at v e (place name id) becomes.others q (c q) ne (may q)) (becomes.settled (c (place name id)) (may (place name id)) ∙ becomes.reads)
+
+-- its gate is shut
+pub tail_gate : (v e : View) (p : Place) (rest : List ℕ) → Becomes v e p (1 ∷ then_shut rest) → IsAtGate e p (1 + length rest)
+tail_gate v e p rest becomes = record {
+  bytes = 1 ∷ then_shut rest;
+  reads = becomes.reads;
+  within = omega (arith, length-append rest (0 ∷ []));
+  settled = becomes.settled;
+  shut = λ one. let zero_is : get_or (1 ∷ then_shut rest) (1 + length rest) 0 ≡ 0 = get_or_at (1 ∷ rest) 0 [] 0 (1 + length rest) (omega arith) in absurd (omega (arith, one, zero_is));
+}

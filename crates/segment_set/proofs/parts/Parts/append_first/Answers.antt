@@ -1,0 +1,108 @@
+use Rattle.std.proofs.Common.{◌+◌, ℕ, List, [], ◌∷◌, sym, subst}
+use Rattle.disk_model.specs.Image.{place}
+use Rattle.disk_model.specs.View.{LeavesOnly}
+use Rattle.segment_files.specs.Files.{KeepsOthers}
+use Rattle.segment_files.specs.Folder.{EachHas}
+use Rattle.segment_set.specs.Growth.{HasOrGains, new_tail}
+use Rattle.segment_set.specs.Fits.{IsFrameFor, IsTailAt, with_entry}
+use Rattle.segment_set.proofs.Starting.{fits_when_at, at_name, held_none, left_making, frame_first, starts_parts, starts_fits, starts_held, left_starting}
+use Rattle.segment_set.proofs.parts.Parts.append_first.Goals as goal
+
+pub returns-in-Err-clause-any_moment : goal.returns-in-Err-clause-any_moment
+returns-in-Err-clause-any_moment g c = λ t held entry f.
+    let v = g.D.Disk.view c.args.disk.now in
+    left_making v c.args.self.now.name c.args.self.now.tail c.args.self.now.greatest c.requires.none (g.D.Disk.view c.begin.new.disk) c.args.size entry
+    (c.begin.ensures.any_moment t (held_none v c.args.self.now.name c.args.self.now.tail c.args.self.now.greatest c.requires.none held))
+
+pub push_frame-requires-clause-fits : goal.push_frame-requires-clause-fits
+push_frame-requires-clause-fits g c = λ t.
+    let part = new_tail c.in-Ok.tail.id c.args.size in
+    let m = g.D.Disk.view c.begin.new.disk in
+    fits_when_at m c.begin.new.self.name c.in-Ok.tail part (at_name m c.args.self.now.name c.begin.new.self.name c.in-Ok.tail part c.begin.ensures.name (c.in-Ok.ensures.made t))
+
+pub returns-in-Ok-push_frame-clause-parts : goal.returns-in-Ok-push_frame-clause-parts
+returns-in-Ok-push_frame-clause-parts g c = λ t entry f.
+    let v = g.D.Disk.view c.args.disk.now in
+    let m = g.D.Disk.view c.begin.new.disk in
+    let w = g.D.Disk.view c.push_frame.new.disk in
+    let name = c.args.self.now.name in
+    let old = c.args.self.now.tail in
+    let greatest = c.args.self.now.greatest in
+    let tail = c.in-Ok.tail in
+    let size = c.args.size in
+    let first = c.in-Ok.ensures.tail in
+    starts_parts v name old greatest c.requires.none tail size first w c.in-Ok-push_frame.next entry
+    (subst (λ (n : List ℕ). IsTailAt w n c.in-Ok-push_frame.next (with_entry (new_tail tail.id size) entry)) c.begin.ensures.name (c.in-Ok-push_frame.ensures.grown t (new_tail tail.id size) entry (at_name m name c.begin.new.self.name tail (new_tail tail.id size) c.begin.ensures.name (c.in-Ok.ensures.made t)).whole (frame_first v name old greatest c.requires.none tail size first c.args.frame.now entry f)))
+
+pub returns-in-Ok-push_frame-clause-fits : goal.returns-in-Ok-push_frame-clause-fits
+returns-in-Ok-push_frame-clause-fits g c = λ t.
+    let v = g.D.Disk.view c.args.disk.now in
+    let m = g.D.Disk.view c.begin.new.disk in
+    let w = g.D.Disk.view c.push_frame.new.disk in
+    let name = c.args.self.now.name in
+    let old = c.args.self.now.tail in
+    let greatest = c.args.self.now.greatest in
+    let tail = c.in-Ok.tail in
+    let size = c.args.size in
+    let first = c.in-Ok.ensures.tail in
+    let entry = c.requires.frame.0 in
+    starts_fits v name old greatest c.requires.none tail size first m w c.in-Ok-push_frame.next entry c.begin.new.self.greatest
+    (c.requires.fits t) (c.begin.ensures.others t)
+    (subst (λ (n : List ℕ). KeepsOthers m w (place n tail.id)) c.begin.ensures.name (c.push_frame.ensures.others t))
+    c.in-Ok-push_frame.ensures.tail.0 c.in-Ok.ensures.greatest
+    (subst (λ (n : List ℕ). IsTailAt w n c.in-Ok-push_frame.next (with_entry (new_tail tail.id size) entry)) c.begin.ensures.name (c.in-Ok-push_frame.ensures.grown t (new_tail tail.id size) entry (at_name m name c.begin.new.self.name tail (new_tail tail.id size) c.begin.ensures.name (c.in-Ok.ensures.made t)).whole (subst (λ (k : ℕ). IsFrameFor k c.args.frame.now entry) (sym first.last) c.requires.frame.1)))
+
+pub returns-in-Ok-push_frame-clause-held : goal.returns-in-Ok-push_frame-clause-held
+returns-in-Ok-push_frame-clause-held g c = λ t held.
+    let v = g.D.Disk.view c.args.disk.now in
+    let m = g.D.Disk.view c.begin.new.disk in
+    let w = g.D.Disk.view c.push_frame.new.disk in
+    let name = c.args.self.now.name in
+    let old = c.args.self.now.tail in
+    let greatest = c.args.self.now.greatest in
+    let tail = c.in-Ok.tail in
+    let size = c.args.size in
+    let first = c.in-Ok.ensures.tail in
+    let entry = c.requires.frame.0 in
+    let f = subst (λ (k : ℕ). IsFrameFor k c.args.frame.now entry) (sym first.last) c.requires.frame.1 in
+    starts_held v name old greatest c.requires.none tail size first w c.in-Ok-push_frame.next entry
+    (subst (λ (n : List ℕ). IsTailAt w n c.in-Ok-push_frame.next (with_entry (new_tail tail.id size) entry)) c.begin.ensures.name (c.in-Ok-push_frame.ensures.grown t (new_tail tail.id size) entry (at_name m name c.begin.new.self.name tail (new_tail tail.id size) c.begin.ensures.name (c.in-Ok.ensures.made t)).whole f))
+    (subst (λ (n : List ℕ). EachHas w n (with_entry (new_tail tail.id size) entry ∷ [])) c.begin.ensures.name
+    (c.in-Ok-push_frame.ensures.held t (new_tail tail.id size) entry (at_name m name c.begin.new.self.name tail (new_tail tail.id size) c.begin.ensures.name (c.in-Ok.ensures.made t)).whole f
+    (subst (λ (n : List ℕ). EachHas m n (new_tail tail.id size ∷ [])) (sym c.begin.ensures.name) (c.in-Ok.ensures.held t (held_none v name old greatest c.requires.none held)))))
+
+pub returns-in-Ok-push_frame-clause-any_moment : goal.returns-in-Ok-push_frame-clause-any_moment
+returns-in-Ok-push_frame-clause-any_moment g c = λ t held entry f.
+    let v = g.D.Disk.view c.args.disk.now in
+    let m = g.D.Disk.view c.begin.new.disk in
+    let w = g.D.Disk.view c.push_frame.new.disk in
+    let name = c.args.self.now.name in
+    let old = c.args.self.now.tail in
+    let greatest = c.args.self.now.greatest in
+    let tail = c.in-Ok.tail in
+    let size = c.args.size in
+    let first = c.in-Ok.ensures.tail in
+    let none = held_none v name old greatest c.requires.none held in
+    left_starting v name old greatest c.requires.none tail size first m w entry (c.begin.ensures.any_moment t none)
+    (subst (λ (n : List ℕ). LeavesOnly m w (HasOrGains n (new_tail tail.id size) (((new_tail tail.id size).last + 1, entry) ∷ []) 22)) c.begin.ensures.name
+    (c.push_frame.ensures.any_moment t (new_tail tail.id size) entry (at_name m name c.begin.new.self.name tail (new_tail tail.id size) c.begin.ensures.name (c.in-Ok.ensures.made t)).whole
+    (frame_first v name old greatest c.requires.none tail size first c.args.frame.now entry f)
+    (subst (λ (n : List ℕ). EachHas m n (new_tail tail.id size ∷ [])) (sym c.begin.ensures.name) (c.in-Ok.ensures.held t none))))
+
+pub returns-in-Err-push_frame-clause-any_moment : goal.returns-in-Err-push_frame-clause-any_moment
+returns-in-Err-push_frame-clause-any_moment g c = λ t held entry f.
+    let v = g.D.Disk.view c.args.disk.now in
+    let m = g.D.Disk.view c.begin.new.disk in
+    let w = g.D.Disk.view c.push_frame.new.disk in
+    let name = c.args.self.now.name in
+    let old = c.args.self.now.tail in
+    let greatest = c.args.self.now.greatest in
+    let tail = c.in-Ok.tail in
+    let size = c.args.size in
+    let first = c.in-Ok.ensures.tail in
+    let none = held_none v name old greatest c.requires.none held in
+    left_starting v name old greatest c.requires.none tail size first m w entry (c.begin.ensures.any_moment t none)
+    (subst (λ (n : List ℕ). LeavesOnly m w (HasOrGains n (new_tail tail.id size) (((new_tail tail.id size).last + 1, entry) ∷ []) 22)) c.begin.ensures.name
+    (c.push_frame.ensures.any_moment t (new_tail tail.id size) entry (at_name m name c.begin.new.self.name tail (new_tail tail.id size) c.begin.ensures.name (c.in-Ok.ensures.made t)).whole
+    (frame_first v name old greatest c.requires.none tail size first c.args.frame.now entry f)
+    (subst (λ (n : List ℕ). EachHas m n (new_tail tail.id size ∷ [])) (sym c.begin.ensures.name) (c.in-Ok.ensures.held t none))))

@@ -1,0 +1,61 @@
+use Rattle.std.proofs.Common.{◌+◌, ℕ, sym, ap, ◌∙◌}
+use Rattle.segment_set.proofs.Advancing.{tail_fits, at_last, greatest_stays, frame_at, advances_parts, advances_fits, held_at, advances_held, advances_left}
+use Rattle.segment_set.proofs.Gaining.{keeps_names}
+use Rattle.segment_set.proofs.parts.Parts.append_to.Goals as goal
+
+pub push_frame-requires-clause-fits : goal.push_frame-requires-clause-fits
+push_frame-requires-clause-fits g c = λ t. tail_fits (g.D.Disk.view c.args.disk.now) c.args.self.now.name c.args.self.now.tail c.args.self.now.greatest c.args.tail c.requires.tail (c.requires.fits t)
+
+pub returns-in-Ok-clause-parts : goal.returns-in-Ok-clause-parts
+returns-in-Ok-clause-parts g c = λ t size entry f.
+    let v = g.D.Disk.view c.args.disk.now in
+    let fits = tail_fits v c.args.self.now.name c.args.self.now.tail c.args.self.now.greatest c.args.tail c.requires.tail (c.requires.fits t) in
+    let at = c.in-Ok.ensures.grown t fits.part entry fits.whole (frame_at v c.args.self.now.name c.args.self.now.tail c.args.self.now.greatest c.args.tail c.requires.tail c.args.frame.now entry f) in
+    advances_parts v c.args.self.now.name c.args.self.now.tail c.args.self.now.greatest c.args.tail c.requires.tail (g.D.Disk.view c.push_frame.new.disk) c.in-Ok.next size fits.part entry fits.whole at
+
+pub returns-in-Ok-clause-fits : goal.returns-in-Ok-clause-fits
+returns-in-Ok-clause-fits g c = λ t.
+    let v = g.D.Disk.view c.args.disk.now in
+    let fits = tail_fits v c.args.self.now.name c.args.self.now.tail c.args.self.now.greatest c.args.tail c.requires.tail (c.requires.fits t) in
+    let at = c.in-Ok.ensures.grown t fits.part c.requires.frame.0 fits.whole c.requires.frame.1 in
+    advances_fits v c.args.self.now.name c.args.self.now.tail c.args.self.now.greatest c.args.tail c.requires.tail (g.D.Disk.view c.push_frame.new.disk) c.in-Ok.next fits.part c.requires.frame.0
+    (c.requires.fits t) (c.push_frame.ensures.others t) c.in-Ok.ensures.tail.0 fits.whole at
+
+pub returns-in-Ok-clause-held : goal.returns-in-Ok-clause-held
+returns-in-Ok-clause-held g c = λ t held.
+    let v = g.D.Disk.view c.args.disk.now in
+    let fits = tail_fits v c.args.self.now.name c.args.self.now.tail c.args.self.now.greatest c.args.tail c.requires.tail (c.requires.fits t) in
+    let at = c.in-Ok.ensures.grown t fits.part c.requires.frame.0 fits.whole c.requires.frame.1 in
+    advances_held v c.args.self.now.name c.args.self.now.tail c.args.self.now.greatest c.args.tail c.requires.tail (g.D.Disk.view c.push_frame.new.disk) c.in-Ok.next fits.part c.requires.frame.0 at
+    (c.in-Ok.ensures.held t fits.part c.requires.frame.0 fits.whole c.requires.frame.1
+    (held_at v c.args.self.now.name c.args.self.now.tail c.args.self.now.greatest c.args.tail c.requires.tail fits.part fits.whole held))
+
+pub returns-in-Ok-clause-last : goal.returns-in-Ok-clause-last
+returns-in-Ok-clause-last g c = c.in-Ok.ensures.tail.1 ∙ ap (λ (k : ℕ). k + 1) (sym (at_last (g.D.Disk.view c.args.disk.now) c.args.self.now.name c.args.self.now.tail c.args.self.now.greatest c.args.tail c.requires.tail))
+
+pub returns-in-Ok-clause-greatest : goal.returns-in-Ok-clause-greatest
+returns-in-Ok-clause-greatest g c = greatest_stays (g.D.Disk.view c.args.disk.now) c.args.self.now.name c.args.self.now.tail c.args.self.now.greatest c.args.tail c.requires.tail
+
+pub returns-in-Ok-clause-any_moment : goal.returns-in-Ok-clause-any_moment
+returns-in-Ok-clause-any_moment g c = λ t held entry f.
+    let v = g.D.Disk.view c.args.disk.now in
+    let fits = tail_fits v c.args.self.now.name c.args.self.now.tail c.args.self.now.greatest c.args.tail c.requires.tail (c.requires.fits t) in
+    advances_left v c.args.self.now.name c.args.self.now.tail c.args.self.now.greatest c.args.tail c.requires.tail (g.D.Disk.view c.push_frame.new.disk) fits.part entry fits.whole
+    (c.push_frame.ensures.any_moment t fits.part entry fits.whole
+    (frame_at v c.args.self.now.name c.args.self.now.tail c.args.self.now.greatest c.args.tail c.requires.tail c.args.frame.now entry f)
+    (held_at v c.args.self.now.name c.args.self.now.tail c.args.self.now.greatest c.args.tail c.requires.tail fits.part fits.whole held))
+
+pub returns-in-Ok-clause-others : goal.returns-in-Ok-clause-others
+returns-in-Ok-clause-others g c = λ t. keeps_names (g.D.Disk.view c.args.disk.now) (g.D.Disk.view c.push_frame.new.disk) c.args.self.now.name c.args.tail.id (c.push_frame.ensures.others t)
+
+pub returns-in-Err-clause-any_moment : goal.returns-in-Err-clause-any_moment
+returns-in-Err-clause-any_moment g c = λ t held entry f.
+    let v = g.D.Disk.view c.args.disk.now in
+    let fits = tail_fits v c.args.self.now.name c.args.self.now.tail c.args.self.now.greatest c.args.tail c.requires.tail (c.requires.fits t) in
+    advances_left v c.args.self.now.name c.args.self.now.tail c.args.self.now.greatest c.args.tail c.requires.tail (g.D.Disk.view c.push_frame.new.disk) fits.part entry fits.whole
+    (c.push_frame.ensures.any_moment t fits.part entry fits.whole
+    (frame_at v c.args.self.now.name c.args.self.now.tail c.args.self.now.greatest c.args.tail c.requires.tail c.args.frame.now entry f)
+    (held_at v c.args.self.now.name c.args.self.now.tail c.args.self.now.greatest c.args.tail c.requires.tail fits.part fits.whole held))
+
+pub returns-in-Err-clause-others : goal.returns-in-Err-clause-others
+returns-in-Err-clause-others g c = λ t. keeps_names (g.D.Disk.view c.args.disk.now) (g.D.Disk.view c.push_frame.new.disk) c.args.self.now.name c.args.tail.id (c.push_frame.ensures.others t)

@@ -1,0 +1,124 @@
+-- What the parts of a log are on a disk that tells.
+use Rattle.std.specs.Prelude.{◌≡◌, ◌≢◌, ◌<◌, ◌≤◌, ◌⊎◌, ◌+◌, ◌^◌, ℕ, List, [], ◌∷◌, ◌++◌, map, Option, Some, None}
+use Rattle.host_types.specs.declared.entry.Entry.{Entry}
+use Rattle.disk_model.specs.declared.file_id.FileId.{FileId}
+use Rattle.disk_model.specs.Image.{Place, Image, place}
+use Rattle.disk_model.specs.View.{View, MayLeave, IsListed}
+use Rattle.segment_files.specs.Files.{IsAtGate}
+use Rattle.segment_files.specs.Parse.{Numbered, Part, Found, Closed, Whole, Damaged}
+use Rattle.segment_files.specs.Folder.{folder, entries_of, Stands, StandsForPrefix, EachHas}
+use Rattle.segment_files.specs.Spelling.{tick_at}
+use Rattle.segment_files.specs.Contents.{frame_bytes}
+use Rattle.segment_set.specs.Growth.{grown, new_tail}
+use Rattle.segment_set.specs.declared.parts.Tail.{Tail}
+
+abbrev pub part_list : Found → List Part
+part_list Closed = []
+part_list (Whole part) = part ∷ []
+part_list (Damaged at) = []
+
+-- the parts that an image has, where this is the tail
+abbrev pub parts_in : Image → List ℕ → Option Tail → List Part
+parts_in image name None = []
+parts_in image name (Some tail) = part_list (folder name image tail.id)
+
+-- the entries without their indexes
+abbrev pub bare : Numbered → List Entry
+bare entries = map (λ (e : ℕ × Entry). e.1) entries
+
+-- the log that these parts are
+abbrev pub log_of : List Part → List Entry
+log_of parts = bare (entries_of parts)
+
+-- the tail is a file of the folder, and its first gate that isn't open stands where the next frame goes
+pub record TailFits (v : View) (name : List ℕ) (tail : Tail) : Type 0 where
+  pub part : Part
+  pub whole : folder name v.reading tail.id ≡ Whole part
+  pub last : part.last ≡ tail.last
+  pub gate : part.gate ≡ tail.gate
+  pub size : part.size ≡ tail.size
+  pub at_gate : IsAtGate v (place name tail.id) tail.gate
+
+abbrev pub TailIs : View → List ℕ → Option Tail → Type 0
+TailIs v name None = Unit {0}
+TailIs v name (Some tail) = TailFits v name tail
+
+abbrev pub IsTailOf : Option Tail → FileId → Type 0
+IsTailOf None id = ⊥
+IsTailOf (Some tail) id = id ≡ tail.id
+
+-- the disk fits the parts: the tail, and no file beside it
+pub record Fits (v : View) (name : List ℕ) (tail : Option Tail) (greatest : ℕ) : Type 0 where
+  pub tail_is : TailIs v name tail
+  pub only : (id : FileId) → IsListed v (place name id) → IsTailOf tail id
+  pub generations : (id : FileId) → IsListed v (place name id) → id.generation ≤ greatest
+
+-- and each image that a crash now may leave has the same parts
+abbrev pub IsHeld : View → List ℕ → Option Tail → Type 0
+IsHeld v name tail = EachHas v name (parts_in v.reading name tail)
+
+abbrev pub last_of : Option Tail → ℕ
+last_of None = 0
+last_of (Some tail) = tail.last
+
+-- an image stands for the log without the entry or with it
+abbrev pub StandsOrGains : List ℕ → List Entry → Entry → Image → Type 0
+StandsOrGains name log entry c = Stands (folder name c) log ⊎ Stands (folder name c) (log ++ entry ∷ [])
+
+-- files of other names read as before
+abbrev pub KeepsNames : View → View → List ℕ → Type 0
+KeepsNames old new name = (q : Place) → q.name ≢ name → new.reading q ≡ old.reading q
+
+-- IN ORDER: a folder stands for a log, whatever a crash leaves
+
+-- from so many entries on
+abbrev pub IsInOrder : View → List ℕ → List Entry → ℕ → Type 0
+IsInOrder v name log least = (c : Image) → MayLeave v c → StandsForPrefix name log least c
+
+-- where no file of the name is listed, no image has a part
+abbrev pub IsEmptyWhereNone : View → List ℕ → Type 0
+IsEmptyWhereNone v name = ((id : FileId) → IsListed v (place name id) → ⊥) → EachHas v name []
+
+-- a new file stands there with no entries, and its gate is shut
+pub record IsMade (v : View) (name : List ℕ) (id : FileId) (size : ℕ) : Type 0 where
+  pub whole : folder name v.reading id ≡ Whole (new_tail id size)
+  pub at_gate : IsAtGate v (place name id) 64
+
+-- a frame with the entry that comes next
+pub record IsFrameFor (last : ℕ) (frame : List ℕ) (entry : Entry) : Type 0 where
+  pub time : ℕ
+  pub tick : entry ≡ tick_at time
+  pub time_fits : time < 2 ^ 64
+  pub bytes : frame ≡ frame_bytes (last + 1) entry
+
+-- the tail is this part, and its first gate that isn't open stands where the next frame goes
+pub record IsTailAt (v : View) (name : List ℕ) (tail : Tail) (part : Part) : Type 0 where
+  pub whole : folder name v.reading tail.id ≡ Whole part
+  pub last : part.last ≡ tail.last
+  pub gate : part.gate ≡ tail.gate
+  pub size : part.size ≡ tail.size
+  pub at_gate : IsAtGate v (place name tail.id) tail.gate
+
+-- a part with the next entry, in a frame of 22 bytes
+abbrev pub with_entry : Part → Entry → Part
+with_entry part entry = grown part ((part.last + 1, entry) ∷ []) 22
+
+-- the id of a log's first file
+abbrev pub first_id : ℕ → FileId
+first_id generation = record { base = 1; generation = generation }
+
+pub record IsFirstTail (tail : Tail) (generation size : ℕ) : Type 0 where
+  pub id : tail.id ≡ first_id generation
+  pub last : tail.last ≡ 0
+  pub gate : tail.gate ≡ 64
+  pub size_is : tail.size ≡ size
+
+-- the parts with the next entry, where a new file has this size and the generation behind this one
+abbrev pub gained : ℕ → ℕ → List Part → Entry → List Part
+gained size greatest [] entry = with_entry (new_tail (first_id (greatest + 1)) size) entry ∷ []
+gained size greatest (part ∷ parts) entry = with_entry part entry ∷ parts
+
+-- the greatest generation once there is a file
+abbrev pub greatest_after : Option Tail → ℕ → ℕ
+greatest_after None greatest = greatest + 1
+greatest_after (Some tail) greatest = greatest

@@ -1,0 +1,92 @@
+-- What an opening does to a folder.
+use Rattle.std.specs.Prelude.{◌≡◌, ◌≢◌, ◌<◌, ◌≤◌, ◌⊎◌, ℕ, Bool, IsTrue, List, [], ◌∷◌, ◌++◌, length, get_or, Option, Some, None, Result, IsErrOf, Contains}
+use Rattle.std.specs.List.{AllPairs}
+use Rattle.disk_model.specs.declared.file_id.FileId.{FileId}
+use Rattle.disk_model.specs.Image.{Place, Image, place}
+use Rattle.disk_model.specs.View.{View, MayHold, MayLeave, IsListed, LeavesAt}
+use Rattle.segment_files.specs.Contents.{Shows}
+use Rattle.segment_files.specs.Parse.{Part, Closed, Whole, Damaged}
+use Rattle.segment_files.specs.Folder.{Folder, folder, HasOpen}
+use Rattle.segment_set.specs.declared.opening.OpenError.{OpenError}
+use Rattle.segment_set.specs.declared.opening.OpenError.TheVariants.{Disk as Is_disk}
+use Rattle.segment_set.specs.declared.opened.Opened.{Opened}
+use Rattle.segment_set.specs.declared.parts.Tail.{Tail}
+
+-- these files are listed, each once
+pub record AreListed (v : View) (name : List ℕ) (ids : List FileId) : Type 0 where
+  pub listed : (id : FileId) → Contains ids id → IsListed v (place name id)
+  pub apart : AllPairs (λ a b. a ≢ b) ids
+
+-- at each place what might have been left before, but of these files perhaps none
+abbrev pub OrGone : View → List ℕ → List FileId → Place → Option (List ℕ) → Type 0
+OrGone v name ids q o = MayHold v q o ⊎ ((id : FileId) × Contains ids id × (q ≡ place name id) × (o ≡ None))
+
+-- the first n of these files are removed
+pub record RemovedSoFar (old new : View) (name : List ℕ) (ids : List FileId) (n : ℕ) : Type 0 where
+  pub left : LeavesAt old new (OrGone old name ids)
+  pub others : (q : Place) → ((id : FileId) → Contains ids id → q ≢ place name id) → new.reading q ≡ old.reading q
+  pub later : (k : ℕ) (d : FileId) → n ≤ k → k < length ids → new.reading (place name (get_or ids k d)) ≡ old.reading (place name (get_or ids k d))
+  pub gone : (k : ℕ) (d : FileId) → k < n → k < length ids → new.reading (place name (get_or ids k d)) ≡ None
+
+-- its files are those of an image of before
+pub record IsLikeBefore (v : View) (name : List ℕ) (c : Image) : Type 0 where
+  pub before : Image
+  pub may : MayLeave v before
+  pub same : folder name c ≡ folder name before
+
+-- These files were looked at: some are closed, and at most one is open.
+pub record Surveyed (files : Folder) (ids closed : List FileId) (opened : Option FileId) : Type 0 where
+  pub closed_is : (id : FileId) → Contains closed id → files id ≡ Closed
+  pub among : (id : FileId) → Contains closed id → Contains ids id
+  pub apart : AllPairs (λ a b. a ≢ b) closed
+  pub each : (id : FileId) → Contains ids id → Contains closed id ⊎ (opened ≡ Some id)
+  pub opened_among : (id : FileId) → opened ≡ Some id → Contains ids id
+  pub opened_whole : (id : FileId) → opened ≡ Some id → (part : Part) × (files id ≡ Whole part)
+
+-- what one file was found to be
+abbrev pub IsLooked : Folder → FileId → Option Opened → Type 0
+IsLooked files id None = files id ≡ Closed
+IsLooked files id (Some opened) = (opened.id ≡ id) × ((part : Part) × (files id ≡ Whole part) × Shows opened.part part)
+
+-- why a file counts as damaged: in itself, or as a second one with an open gate
+abbrev pub IsSeenDamaged : Folder → FileId → Bool → Type 0
+IsSeenDamaged files id has_open = ((at : ℕ) × (files id ≡ Damaged at)) ⊎ (IsTrue has_open × HasOpen files id)
+
+-- a fault has the numbers of this file
+abbrev pub IsOf : ℕ → ℕ → ℕ → FileId → Type 0
+IsOf base generation at id = (base ≡ id.base) × (generation ≡ id.generation) × (at ≡ 0)
+
+-- the open file that was found
+abbrev pub opened_id : Option Opened → Option FileId
+opened_id None = None
+opened_id (Some opened) = Some opened.id
+
+abbrev pub OpenedIs : Folder → Option Opened → Type 0
+OpenedIs files None = Unit {0}
+OpenedIs files (Some opened) = (part : Part) × (files opened.id ≡ Whole part) × Shows opened.part part
+
+-- a file more: the open one, or closed
+abbrev pub Adds : FileId → Option Opened → List FileId → Option Opened → List FileId → Option Opened → Type 0
+Adds id None closed opened closed' opened' = (closed' ≡ closed ++ id ∷ []) × (opened' ≡ opened)
+Adds id (Some one) closed opened closed' opened' = (closed' ≡ closed) × (opened' ≡ Some one)
+
+-- the id of a file in a fault
+abbrev pub id_from : ℕ → ℕ → FileId
+id_from base generation = record { base = base; generation = generation }
+
+-- a disk fault is told only where the disk has failed since
+pub record HasOpenCause {T : Type 0} (before now : ℕ) (result : Result T OpenError) : Type 0 where
+  pub later : before ≤ now
+  pub failed : IsErrOf result Is_disk → before < now
+
+-- the tail that the open file is
+abbrev pub IsTailFound : Option Opened → Option Tail → Type 0
+IsTailFound None None = Unit {0}
+IsTailFound None (Some tail) = ⊥
+IsTailFound (Some one) None = ⊥
+IsTailFound (Some one) (Some tail) = (tail.id ≡ one.id) × (tail.last ≡ one.part.last) × (tail.gate ≡ one.part.gate) × (tail.size ≡ one.part.descriptor.size)
+
+-- the greatest generation of a listed file of the name, or 0
+pub record IsGreatestListed (v : View) (name : List ℕ) (greatest : ℕ) : Type 0 where
+  pub above : (id : FileId) → IsListed v (place name id) → id.generation ≤ greatest
+  pub taken : (greatest ≡ 0) ⊎ ((id : FileId) × IsListed v (place name id) × (id.generation ≡ greatest))

@@ -1,0 +1,11 @@
+//! The files of a log as a whole: opened, and appended to.
+#![tactic(auto)]
+
+mod appends;
+mod opened;
+mod opening;
+mod parts;
+mod removals;
+
+pub use opening::OpenError;
+pub use parts::{GENERATION_LIMIT, Parts, Tail};

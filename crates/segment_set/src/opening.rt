@@ -1,0 +1,221 @@
+// A log is opened: all that is read is settled, and what is no part is removed.
+ghost use Rattle.std.specs.Prelude.{◌≡◌, ◌≢◌, ◌≤◌, ◌⊎◌, ℕ, List, Some, None, IsTrue, IfOk, OnOk, IsErrOf, All, Contains};
+ghost use Rattle.host_types.specs.declared.entry.Entry.{Entry};
+ghost use Rattle.disk_model.specs.declared.file_id.FileId.{FileId};
+ghost use Rattle.disk_model.specs.Image.{IsFileId, place};
+ghost use Rattle.disk_model.specs.View.{LeavesAt, LeavesOnly, MayHold, IsListed};
+ghost use Rattle.disk_model.specs.Calls.{Lists, Stays};
+ghost use Rattle.segment_files.specs.Parse.{Closed};
+ghost use Rattle.segment_files.specs.Folder.{folder, HasOpen, IsChoice, IsDamaged, IsFault, IsFirstDamaged, StandsForPrefix};
+ghost use Rattle.segment_set.specs.Fits.{Fits, IsEmptyWhereNone, IsHeld, IsInOrder, KeepsNames, parts_in};
+ghost use Rattle.segment_set.specs.Opening.{Adds, HasOpenCause, IsGreatestListed, IsLooked, IsOf, IsSeenDamaged, IsTailFound, OpenedIs, Surveyed, id_from, opened_id};
+
+use crate::opened::Opened;
+use crate::parts::{Parts, Tail};
+use crate::removals::remove_all;
+use disk_model::{Disk, DiskFault, FileId};
+use host_types::{LogName, NoMemory};
+use segment_files::{FileFault, Found, scan, settle_all};
+use std::alloc::Global;
+
+/// Why a log can't be opened.
+#[derive(Clone, Copy, Debug, PartialEq, Eq)]
+pub enum OpenError {
+    /// The disk failed.
+    Disk,
+    /// This file isn't right, and no other is read in its stead. The place is 0 for now, wherever it is.
+    Damaged { base: u64, generation: u64, at: u64 },
+    /// No memory was left.
+    NoMemory,
+}
+
+/// What the files of a name were found to be.
+#[derive(Drop)]
+struct Survey {
+    opened: Option<Opened>,
+    closed: Vec<FileId>,
+}
+
+impl Survey {
+    /// Adds a file that was looked at: it is the open one, or closed.
+    fn add(&mut self, id: FileId, one: Option<Opened>) -> Result<(), NoMemory>
+        ensures { OnOk result (Adds id one self.old.closed.items self.old.opened self.new.closed.items self.new.opened) }
+    {
+        match one {
+            Some(one) => {
+                self.opened = Some(one);
+                Ok(())
+            }
+            None => match self.closed.push(id) {
+                Ok(()) => Ok(()),
+                Err(_) => Err(NoMemory),
+            },
+        }
+    }
+}
+
+/// The fault of a file that isn't right.
+fn damaged(id: FileId) -> OpenError
+    ensures { result ≡ OpenError.Damaged id.base id.generation 0 }
+{
+    OpenError::Damaged {
+        base: id.base,
+        generation: id.generation,
+        at: 0,
+    }
+}
+
+/// A fault of the disk, as one of an opening.
+fn disk_error(fault: DiskFault) -> OpenError
+    ensures cause { result ≡ OpenError.Disk → fault ≡ DiskFault.Failed }
+    ensures never { (base generation at : ℕ) → result ≡ OpenError.Damaged base generation at → ⊥ }
+{
+    match fault {
+        DiskFault::Failed => OpenError::Disk,
+        DiskFault::NoMemory => OpenError::NoMemory,
+    }
+}
+
+/// Reads one file: its part, or none where it is closed. A second open file counts as damaged.
+fn look<D: Disk>(
+    alloc: Global,
+    disk: &mut D,
+    name: &LogName,
+    id: FileId,
+    has_open: bool,
+) -> Result<Option<Opened>, OpenError>
+    requires id { IsFileId id }
+    requires listed { IsTrue D.tells → IsListed (D.view disk.old) (place name.now id) }
+    ensures looked { IfOk result (λ opened. IsTrue D.tells → IsLooked (folder name.now (D.view disk.old).reading) id opened) }
+    ensures second { IsTrue has_open → IfOk result (λ opened. opened ≡ None) }
+    ensures damaged { (base generation at : ℕ) → IsErrOf result (OpenError.Damaged base generation at)
+        → IsOf base generation at id × (IsTrue D.tells → IsSeenDamaged (folder name.now (D.view disk.old).reading) id has_open) }
+    ensures stays { IsTrue D.tells → Stays (D.view disk.old) (D.view disk.new) }
+    ensures any_moment { IsTrue D.tells → LeavesAt (D.view disk.old) (D.view disk.new) (MayHold (D.view disk.old)) }
+    ensures cause { HasOpenCause (D.faults disk.old) (D.faults disk.new) result }
+{
+    match scan(alloc, disk, name, id) {
+        Ok(Found::Closed) => Ok(None),
+        Ok(Found::Part(part)) => {
+            if has_open {
+                return Err(damaged(id));
+            }
+            Ok(Some(Opened { id, part }))
+        }
+        Err(FileFault::Damaged { .. }) => Err(damaged(id)),
+        Err(FileFault::Failed) => Err(OpenError::Disk),
+        Err(FileFault::NoMemory) => Err(OpenError::NoMemory),
+    }
+}
+
+/// Reads all files of a name, one after the other.
+fn read_all<D: Disk>(
+    alloc: Global,
+    disk: &mut D,
+    name: &LogName,
+    ids: &[FileId],
+) -> Result<Survey, OpenError>
+    requires ids { All IsFileId ids.now }
+    requires lists { IsTrue D.tells → Lists (D.view disk.old) name.now ids.now }
+    ensures surveyed { IfOk result (λ found. IsTrue D.tells → Surveyed (folder name.now (D.view disk.old).reading) ids.now found.closed.items (opened_id found.opened)) }
+    ensures opened { IfOk result (λ found. IsTrue D.tells → OpenedIs (folder name.now (D.view disk.old).reading) found.opened) }
+    ensures closed { IfOk result (λ found. All IsFileId found.closed.items) }
+    ensures damaged { (base generation at : ℕ) → IsErrOf result (OpenError.Damaged base generation at)
+        → (at ≡ 0) × (IsTrue D.tells → IsFirstDamaged (folder name.now (D.view disk.old).reading) (id_from base generation)) }
+    ensures reading { IsTrue D.tells → (D.view disk.new).reading ≡ (D.view disk.old).reading }
+    ensures any_moment { IsTrue D.tells → LeavesAt (D.view disk.old) (D.view disk.new) (MayHold (D.view disk.old)) }
+    ensures cause { HasOpenCause (D.faults disk.old) (D.faults disk.new) result }
+{
+    let mut found = Survey {
+        opened: None,
+        closed: Vec::new(alloc),
+    };
+    for id in ids {
+        let one = match look(alloc, disk, name, *id, found.opened.is_some()) {
+            Ok(one) => one,
+            Err(error) => return Err(error),
+        };
+        match found.add(*id, one) {
+            Ok(()) => {}
+            Err(_) => return Err(OpenError::NoMemory),
+        }
+    }
+    Ok(found)
+}
+
+/// The open file as the tail of a log. It has to begin with the first entry.
+fn tail_of(opened: Option<Opened>) -> Result<Option<Tail>, OpenError>
+    ensures ok { IfOk result (λ tail. IsTailFound opened tail) }
+    ensures damaged { (base generation at : ℕ) → IsErrOf result (OpenError.Damaged base generation at) → (one : Opened) × (opened ≡ Some one) × IsOf base generation at one.id × (one.id.base ≢ 1) }
+    ensures disk { IsErrOf result OpenError.Disk → ⊥ }
+{
+    let Some(one) = opened else {
+        return Ok(None);
+    };
+    if one.id.base != 1 {
+        return Err(damaged(one.id));
+    }
+    Ok(Some(Tail {
+        id: one.id,
+        last: one.part.last,
+        gate: one.part.gate,
+        size: one.part.descriptor.size,
+    }))
+}
+
+/// The greatest generation of these files, or 0.
+fn greatest_of(ids: &[FileId]) -> u64
+    requires { All IsFileId ids.now }
+    ensures above { (id : FileId) → Contains ids.now id → id.generation ≤ result }
+    ensures taken { (result ≡ 0) ⊎ ((id : FileId) × Contains ids.now id × (id.generation ≡ result)) }
+    ensures bound { result ≤ 281474976710655 }
+{
+    let mut greatest = 0;
+    for id in ids {
+        greatest = greatest.max(id.generation);
+    }
+    greatest
+}
+
+impl Parts {
+    /// Opens the log of a name: lists its files, syncs each, reads them all, and removes those whose gate isn't open. What is
+    /// read after the syncs is what every crash leaves from then on. Where it answers `Damaged` no file has been removed.
+    pub fn load<D: Disk>(alloc: Global, disk: &mut D, name: &LogName) -> Result<Parts, OpenError>
+        ensures name { IfOk result (λ parts. parts.name ≡ name.now) }
+        // What was read is what is held, with no closed file beside it.
+        ensures fits { IfOk result (λ parts. IsTrue D.tells → Fits (D.view disk.new) name.now parts.tail parts.greatest) }
+        ensures choice { IfOk result (λ parts. IsTrue D.tells → IsChoice (folder name.now (D.view disk.old).reading) (parts_in (D.view disk.new).reading name.now parts.tail)) }
+        ensures held { IfOk result (λ parts. IsTrue D.tells → IsEmptyWhereNone (D.view disk.old) name.now → IsHeld (D.view disk.new) name.now parts.tail) }
+        ensures greatest { IfOk result (λ parts. IsTrue D.tells → IsGreatestListed (D.view disk.old) name.now parts.greatest) }
+
+        // A damaged file is named by its cause, and the files are as they were.
+        ensures damaged { (base generation at : ℕ) → IsErrOf result (OpenError.Damaged base generation at)
+            → (at ≡ 0) × (IsTrue D.tells → IsFault (folder name.now (D.view disk.old).reading) (id_from base generation) × ((D.view disk.new).reading ≡ (D.view disk.old).reading)) }
+
+        ensures any_moment { IsTrue D.tells → (log : List Entry) (least : ℕ) → IsInOrder (D.view disk.old) name.now log least
+            → LeavesOnly (D.view disk.old) (D.view disk.new) (StandsForPrefix name.now log least) }
+        ensures others { IsTrue D.tells → KeepsNames (D.view disk.old) (D.view disk.new) name.now }
+        ensures cause { HasOpenCause (D.faults disk.old) (D.faults disk.new) result }
+    {
+        let ids = match settle_all(disk, name) {
+            Ok(ids) => ids,
+            Err(fault) => return Err(disk_error(fault)),
+        };
+        let found = match read_all(alloc, disk, name, &ids) {
+            Ok(found) => found,
+            Err(error) => return Err(error),
+        };
+        let tail = match tail_of(found.opened) {
+            Ok(tail) => tail,
+            Err(error) => return Err(error),
+        };
+        match remove_all(disk, name, &found.closed) {
+            Ok(()) => Ok(Parts {
+                name: *name,
+                tail,
+                greatest: greatest_of(&ids),
+            }),
+            Err(fault) => Err(disk_error(fault)),
+        }
+    }
+}

@@ -1,0 +1,28 @@
+// Files that stand for nothing are removed, one by one.
+ghost use Rattle.std.specs.Prelude.{◌≡◌, ◌≢◌, IsTrue, OnOk, None, All, Contains};
+ghost use Rattle.disk_model.specs.Image.{IsFileId, Place, place};
+ghost use Rattle.disk_model.specs.View.{LeavesAt, HasCause};
+ghost use Rattle.disk_model.specs.declared.file_id.FileId.{FileId};
+ghost use Rattle.segment_set.specs.Opening.{AreListed, OrGone};
+
+use disk_model::{Disk, DiskFault, FileId};
+use host_types::LogName;
+
+/// Removes these files of a name.
+pub(crate) fn remove_all<D: Disk>(
+    disk: &mut D,
+    name: &LogName,
+    ids: &[FileId],
+) -> Result<(), DiskFault>
+    requires ids { All IsFileId ids.now }
+    requires listed { IsTrue D.tells → AreListed (D.view disk.old) name.now ids.now }
+    ensures any_moment { IsTrue D.tells → LeavesAt (D.view disk.old) (D.view disk.new) (OrGone (D.view disk.old) name.now ids.now) }
+    ensures gone { OnOk result (IsTrue D.tells → (id : FileId) → Contains ids.now id → (D.view disk.new).reading (place name.now id) ≡ None) }
+    ensures others { IsTrue D.tells → (q : Place) → ((id : FileId) → Contains ids.now id → q ≢ place name.now id) → (D.view disk.new).reading q ≡ (D.view disk.old).reading q }
+    ensures cause { HasCause (D.faults disk.old) (D.faults disk.new) result }
+{
+    for id in ids {
+        disk.remove(name, *id)?;
+    }
+    Ok(())
+}
