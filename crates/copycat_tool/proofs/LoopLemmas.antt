@@ -1,0 +1,273 @@
+-- What a loop over the pieces of a script keeps, and what is reported at each of its exits.
+use Rattle.std.proofs.Common.{◌≡◌, ℕ, ◌+◌, ◌-◌, ◌≤◌, ◌<◌, nat_le, Bool, true, false, List, [], ◌∷◌, ◌++◌, length, take, drop, Option, Some, Result, refl, ap, sym, ◌∙◌, subst, arith, append_assoc, length-append, take-append-drop, length-take, nat_lt, if◌then◌else◌}
+use Rattle.std.proofs.lemmas.List.{append-nil, take_all}
+use Rattle.std.proofs.lemmas.Bool.Decides.{nat_tests}
+use Rattle.std.proofs.Math.Seq.{take-append-add, take-append_seam}
+use Rattle.disk_model.specs.Image.{Image}
+use Rattle.disk_model.specs.View.{View}
+use Rattle.log_model.specs.Log.{Item}
+use Rattle.log_model.specs.Layout.{Layout}
+use Rattle.log_model.specs.Script.{command, line_limit, script_limit}
+use Rattle.log_model.specs.Report.{Run, Report, Cut, Whole, Broken, Above, report, one, ends, in_front, last_piece, cut_of}
+use Rattle.log_model.specs.declared.Ending.{Ending}
+use Rattle.log_model.specs.declared.Ending.TheVariants.{Done, Fault, TooLong, ReadFault, WriteFault, DiskFault, NoMemory}
+use Rattle.copycat_tool.specs.Reading.{Finds, TakesMore, EndsAt, IsShort, IsTooLong}
+use Rattle.copycat_tool.specs.declared.reader.Piece.{Piece}
+use Rattle.copycat_tool.specs.declared.reader.ReadError.{ReadError}
+use Rattle.copycat_tool.specs.Runs.{Files, files_of, KeepsOtherNames, Answered, Ended, IsComplete, came, reported}
+use Rattle.copycat_tool.proofs.ReportLemmas.{report_at, report_none, report_long}
+use Rattle.copycat_tool.proofs.Progress.{SoFar, IsAtRest, at_first, one_more, stays, ends_after}
+
+-- So many lines were answered, and this is held and left of the script.
+pub record Met (files : Files) (first run : Run) (number : ℕ) (old now : View) (script held : List ℕ) (taken : ℕ) (left : Option (List ℕ)) (before : List ℕ) (written : Option (List ℕ)) : Type 0 where
+  pub consumed : List ℕ
+  pub rest : List ℕ
+  pub text : List ℕ
+  pub so_far : SoFar files first run number consumed old now text
+  pub parts : script ≡ consumed ++ (held ++ rest)
+  pub left_is : left ≡ Some rest
+  pub taken_is : taken ≡ length consumed + length held
+  pub written_is : written ≡ Some (before ++ text)
+
+-- more is held
+pub parts_more : (script consumed held held' left rest : List ℕ) (taken taken' : ℕ) → script ≡ consumed ++ (held ++ left) → TakesMore left held held' taken taken' rest → script ≡ consumed ++ (held' ++ rest)
+parts_more script consumed held held' left rest taken taken' parts takes =
+    parts
+    ∙ ap (λ (l : List ℕ). consumed ++ (held ++ l)) takes.parts
+    ∙ ap (λ (l : List ℕ). consumed ++ l) (sym (append_assoc held takes.more rest))
+    ∙ ap (λ (l : List ℕ). consumed ++ (l ++ rest)) (sym takes.held_is)
+
+pub taken_more : (consumed held held' left rest : List ℕ) (taken taken' : ℕ) → taken ≡ length consumed + length held → TakesMore left held held' taken taken' rest → taken' ≡ length consumed + length held'
+taken_more consumed held held' left rest taken taken' is takes = omega (arith, is, takes.taken_is, ap length takes.held_is, length-append held takes.more)
+
+take_front : (a rest : List ℕ) (m : ℕ) → length a ≤ m → take m (a ++ rest) ≡ a ++ take (m - length a) rest
+take_front a rest m le =
+    let e : m ≡ length a + (m - length a) = omega arith in
+    ap (λ (k : ℕ). take k (a ++ rest)) e ∙ take-append-add a rest (m - length a)
+
+within : (a b : ℕ) → a ≤ b → nat_le a b ≡ true
+within a b le = grind (arith, nat_tests)
+
+above : (a b : ℕ) → b < a → nat_le a b ≡ false
+above a b lt = grind (arith, nat_tests)
+
+not_below : (a b : ℕ) → b ≤ a → nat_lt a b ≡ false
+not_below a b le = grind (arith, nat_tests)
+
+-- a script whose first part is consumed and whose next part is held, within the limit
+module _ (files : Files) (first run : Run) (number : ℕ) (old now : View) (text consumed : List ℕ) (so_far : SoFar files first run number consumed old now text)
+    (script held rest : List ℕ) (parts : script ≡ consumed ++ (held ++ rest)) (limit : length consumed + length held ≤ script_limit) where
+  abbrev more : List ℕ
+  more = take (script_limit - length (consumed ++ held)) rest
+
+  limited : take script_limit script ≡ consumed ++ (held ++ more)
+  limited =
+      ap (λ (l : List ℕ). take script_limit l) (parts ∙ sym (append_assoc consumed held rest))
+      ∙ take_front (consumed ++ held) rest script_limit (omega (arith, limit, length-append consumed held))
+      ∙ append_assoc consumed held more
+
+  abbrev whole : Report
+  whole = report files.size first 1 (cut_of script) (take script_limit script)
+
+  whole_is : whole ≡ in_front so_far.done (report files.size run number (cut_of script) (held ++ more))
+  whole_is = ap (λ (l : List ℕ). report files.size first 1 (cut_of script) l) limited ∙ so_far.goes_on (cut_of script) (held ++ more)
+
+  abbrev behind : ℕ → Run → Report
+  behind n run = report files.size run (number + 1) (cut_of script) (drop (n + 1) held ++ more)
+
+  -- a line stands at the front
+  pub at_line : (n : ℕ) → EndsAt held n → whole ≡ in_front so_far.done (one files.size (command (take n held)) run number (behind n))
+  at_line n at =
+      let line : held ++ more ≡ take n held ++ 10 ∷ (drop (n + 1) held ++ more) =
+      ap (λ (l : List ℕ). l ++ more) at.feed ∙ append_assoc (take n held) (10 ∷ drop (n + 1) held) more in
+      whole_is ∙ ap (λ (l : List ℕ). in_front so_far.done (report files.size run number (cut_of script) l)) line
+      ∙ ap (λ (r : Report). in_front so_far.done r) (report_at files.size run number (cut_of script) (take n held) (drop (n + 1) held ++ more) at.none_before)
+
+  -- the first line is too long
+  pub at_long : IsTooLong held → whole ≡ in_front so_far.done (ends (Fault number))
+  at_long long =
+      let line : held ++ more ≡ take long.front held ++ (drop long.front held ++ more) =
+      ap (λ (l : List ℕ). l ++ more) (sym (take-append-drop long.front held)) ∙ append_assoc (take long.front held) (drop long.front held) more in
+      let far : line_limit < length (take long.front held) = omega (arith, length-take long.front held, long.within, long.long) in
+      whole_is ∙ ap (λ (l : List ℕ). in_front so_far.done (report files.size run number (cut_of script) l)) line
+      ∙ ap (λ (r : Report). in_front so_far.done r) (report_long files.size run number (cut_of script) (take long.front held) (drop long.front held ++ more) long.none far)
+
+  -- nothing more comes
+  pub at_last : IsShort held → rest ≡ [] → whole ≡ in_front so_far.done (last_piece files.size Whole run number held)
+  at_last short none =
+      let script_is : script ≡ consumed ++ held = parts ∙ ap (λ (l : List ℕ). consumed ++ (held ++ l)) none ∙ ap (λ (l : List ℕ). consumed ++ l) (append-nil held) in
+      let le : length script ≤ script_limit = omega (arith, limit, ap length script_is, length-append consumed held) in
+      let cut : cut_of script ≡ Whole = ap (λ (t : Bool). if t then Whole else Above) (within _ _ le) in
+      ap (λ (l : List ℕ). report files.size first 1 (cut_of script) l) (take_all script_limit script le ∙ script_is)
+      ∙ ap (λ (c : Cut). report files.size first 1 c (consumed ++ held)) cut
+      ∙ so_far.goes_on Whole held
+      ∙ ap (λ (r : Report). in_front so_far.done r) (report_none files.size run number Whole held short.none)
+
+  -- the script goes on above its limit
+  pub at_above : IsShort held → length consumed + length held ≡ script_limit → 0 < length rest → whole ≡ in_front so_far.done (ends TooLong)
+  at_above short full some =
+      let lt : script_limit < length script = omega (arith, full, some, ap length parts, length-append consumed (held ++ rest), length-append held rest) in
+      let cut : cut_of script ≡ Above = ap (λ (t : Bool). if t then Whole else Above) (above _ _ lt) in
+      let no_more : more ≡ [] = (let none : script_limit - length (consumed ++ held) ≡ 0 = omega (arith, full, length-append consumed held) in ap (λ (k : ℕ). take k rest) none) in
+      let piece : last_piece files.size Above run number held ≡ ends TooLong = ap (λ (t : Bool). if t then ends (Fault number) else ends TooLong) (not_below _ _ short.short) in
+      whole_is
+      ∙ ap (λ (c : Cut). in_front so_far.done (report files.size run number c (held ++ more))) cut
+      ∙ ap (λ (l : List ℕ). in_front so_far.done (report files.size run number Above l)) (ap (λ (l : List ℕ). held ++ l) no_more ∙ append-nil held)
+      ∙ ap (λ (r : Report). in_front so_far.done r) (report_none files.size run number Above held short.none ∙ piece)
+
+  came_is : came script (Some rest) ≡ consumed ++ held
+  came_is =
+      let script_is : script ≡ (consumed ++ held) ++ rest = parts ∙ sym (append_assoc consumed held rest) in
+      let count : length script - length rest ≡ length (consumed ++ held) = omega (arith, ap length script_is, length-append (consumed ++ held) rest) in
+      ap (λ (k : ℕ). take k script) count ∙ ap (λ (l : List ℕ). take (length (consumed ++ held)) l) script_is ∙ take-append_seam (consumed ++ held) rest
+
+  -- the source failed
+  pub at_broken : IsShort held → report files.size first 1 Broken (came script (Some rest)) ≡ in_front so_far.done (ends ReadFault)
+  at_broken short =
+      let there : came script (Some rest) ≡ consumed ++ held = came_is in
+      let piece : last_piece files.size Broken run number held ≡ ends ReadFault = ap (λ (t : Bool). if t then ends (Fault number) else ends ReadFault) (not_below _ _ short.short) in
+      ap (λ (l : List ℕ). report files.size first 1 Broken l) there
+      ∙ so_far.goes_on Broken held
+      ∙ ap (λ (r : Report). in_front so_far.done r) (report_none files.size run number Broken held short.none ∙ piece)
+
+-- where the source hasn't failed, the report is of the whole script
+pub other : (size : ℕ) (ending : Ending) (run : Run) (script : List ℕ) (left : Option (List ℕ)) → (ending ≡ ReadFault → ⊥) → reported size ending run script left ≡ report size run 1 (cut_of script) (take script_limit script)
+other size Done run script left isnt = refl
+other size (Fault n) run script left isnt = refl
+other size TooLong run script left isnt = refl
+other size ReadFault run script left isnt = absurd (isnt refl)
+other size WriteFault run script left isnt = refl
+other size DiskFault run script left isnt = refl
+other size NoMemory run script left isnt = refl
+
+-- the run ended, and this was written since it began
+abbrev pub Exit : Files → Run → Report → View → View → List ℕ → Option (List ℕ) → Ending → Type 0
+Exit files first told old new before written ending = (text : List ℕ) × (written ≡ Some (before ++ text)) × Ended files first told old new text ending
+
+-- before the first piece
+pub met_first : (files : Files) (first : Run) (v : View) → IsAtRest files v first → (script held : List ℕ) (taken : ℕ) (left : Option (List ℕ)) (before : List ℕ) (written : Option (List ℕ))
+    → held ≡ [] → taken ≡ 0 → left ≡ Some script → written ≡ Some before → Met files first first 1 v v script held taken left before written
+met_first files first v at_rest script held taken left before written none zero left_is written_is = record {
+  consumed = [];
+  rest = script;
+  text = [];
+  so_far = at_first files first v at_rest;
+  parts = ap (λ (l : List ℕ). l ++ script) (sym none);
+  left_is = left_is;
+  taken_is = omega (arith, zero, ap length none);
+  written_is = written_is ∙ ap (λ (l : List ℕ). Some l) (sym (append-nil before));
+}
+
+module _ (files : Files) (first run : Run) (number : ℕ) (old now : View) (script held : List ℕ) (taken : ℕ) (left : Option (List ℕ)) (before : List ℕ) (written : Option (List ℕ))
+    (m : Met files first run number old now script held taken left before written) where
+  exit : (small : Report) (new : View) (more : List ℕ) (ending : Ending) → Ended files run small now new more ending → (told : Report) → told ≡ in_front m.so_far.done small
+      → (written' : Option (List ℕ)) → written' ≡ Some ((before ++ m.text) ++ more) → Exit files first told old new before written' ending
+  exit small new more ending e told is written' w = (
+    m.text ++ more,
+    w ∙ ap (λ (l : List ℕ). Some l) (append_assoc before m.text more),
+    subst (λ (r : Report). Ended files first r old new (m.text ++ more) ending) (sym is) (ends_after files first run old now m.text m.so_far.done m.so_far.text_is m.so_far.run_is m.so_far.any_moment small new more ending e),
+  )
+
+  still : written ≡ Some ((before ++ m.text) ++ [])
+  still = m.written_is ∙ ap (λ (l : List ℕ). Some l) (sym (append-nil (before ++ m.text)))
+
+  complete : (ending : Ending) → IsComplete ending (ends ending) 0 0 []
+  complete ending = record { ending_is = refl; all = refl; nothing_ahead = refl; no_part = refl }
+
+  -- no memory was left
+  pub memory_exit : IsAtRest files now run → taken ≤ script_limit → Exit files first (report files.size first 1 (cut_of script) (take script_limit script)) old now before written NoMemory
+  memory_exit at_rest bound =
+      exit _ now [] NoMemory (stays files run (report files.size run number (cut_of script) (held ++ take (script_limit - length (m.consumed ++ held)) m.rest)) now NoMemory at_rest refl refl tt) _
+      (whole_is files first run number old now m.text m.consumed m.so_far script held m.rest m.parts (omega (arith, bound, m.taken_is))) written still
+
+  module _ (held' : List ℕ) (taken' : ℕ) (left' : Option (List ℕ)) (bound : taken' ≤ script_limit) where
+    module _ (found : Result Piece ReadError) (f : Finds m.rest held held' taken taken' left' found) where
+      abbrev parts' : script ≡ m.consumed ++ (held' ++ f.rest)
+      parts' = parts_more script m.consumed held held' m.rest f.rest taken taken' m.parts f.takes
+
+      taken_is' : taken' ≡ length m.consumed + length held'
+      taken_is' = taken_more m.consumed held held' m.rest f.rest taken taken' m.taken_is f.takes
+
+      limit' : length m.consumed + length held' ≤ script_limit
+      limit' = omega (arith, bound, taken_is')
+
+      -- the first line is too long
+      pub long_exit : IsAtRest files now run → IsTooLong held' → Exit files first (report files.size first 1 (cut_of script) (take script_limit script)) old now before written (Fault number)
+      long_exit at_rest long =
+          exit (ends (Fault number)) now [] (Fault number) (stays files run (ends (Fault number)) now (Fault number) at_rest (complete (Fault number)) refl at_rest.laid_out) _
+          (at_long files first run number old now m.text m.consumed m.so_far script held' f.rest parts' limit' long) written still
+
+      -- the script goes on above its limit
+      pub above_exit : IsAtRest files now run → IsShort held' → taken' ≡ script_limit → 0 < length f.rest → Exit files first (report files.size first 1 (cut_of script) (take script_limit script)) old now before written TooLong
+      above_exit at_rest short full some =
+          exit (ends TooLong) now [] TooLong (stays files run (ends TooLong) now TooLong at_rest (complete TooLong) refl at_rest.laid_out) _
+          (at_above files first run number old now m.text m.consumed m.so_far script held' f.rest parts' limit' short (omega (arith, full, taken_is')) some) written still
+
+      -- the source failed
+      pub broken_exit : IsAtRest files now run → IsShort held' → left' ≡ Some f.rest → Exit files first (reported files.size ReadFault first script left') old now before written ReadFault
+      broken_exit at_rest short left_is =
+          exit (ends ReadFault) now [] ReadFault (stays files run (ends ReadFault) now ReadFault at_rest (complete ReadFault) refl at_rest.laid_out) _
+          (ap (λ (l : Option (List ℕ)). report files.size first 1 Broken (came script l)) left_is ∙ at_broken files first run number old now m.text m.consumed m.so_far script held' f.rest parts' limit' short) written still
+
+      -- the last line was answered, or the run ended in it
+      pub last_exit : (piece : List ℕ) → piece ≡ held' → IsShort held' → f.rest ≡ [] → (new : View) (more : List ℕ) (ending : Ending) → (ending ≡ ReadFault → ⊥) → Ended files run (last_piece files.size Whole run number piece) now new more ending
+          → (written' : Option (List ℕ)) → written' ≡ Some ((before ++ m.text) ++ more) → Exit files first (reported files.size ending first script left') old new before written' ending
+      last_exit piece is short none new more ending isnt e written' w =
+          exit (last_piece files.size Whole run number held') new more ending (subst (λ (l : List ℕ). Ended files run (last_piece files.size Whole run number l) now new more ending) is e) _
+          (other files.size ending first script left' isnt ∙ at_last files first run number old now m.text m.consumed m.so_far script held' f.rest parts' limit' short none) written' w
+
+      -- the run ended in a line
+      pub line_exit : (n : ℕ) → EndsAt held' n → (line : List ℕ) → line ≡ take n held' → (new : View) (more : List ℕ) (ending : Ending) → (ending ≡ ReadFault → ⊥)
+          → ((rest : Run → Report) → Ended files run (one files.size (command line) run number rest) now new more ending)
+          → (written' : Option (List ℕ)) → written' ≡ Some ((before ++ m.text) ++ more) → Exit files first (reported files.size ending first script left') old new before written' ending
+      line_exit n at line is new more ending isnt e written' w =
+          let rest = behind files first run number old now m.text m.consumed m.so_far script held' f.rest parts' limit' n in
+          exit (one files.size (command (take n held')) run number rest) new more ending (subst (λ (l : List ℕ). Ended files run (one files.size (command l) run number rest) now new more ending) is (e rest)) _
+          (other files.size ending first script left' isnt ∙ at_line files first run number old now m.text m.consumed m.so_far script held' f.rest parts' limit' n at) written' w
+
+      -- a line was answered
+      pub after_turn : (n : ℕ) → EndsAt held' n → left' ≡ Some f.rest → (line : List ℕ) → line ≡ take n held' → (run' : Run) (new : View) (more : List ℕ) → Answered files line run run' now new more
+          → (written' : Option (List ℕ)) → written' ≡ Some ((before ++ m.text) ++ more) → Met files first run' (number + 1) old new script (drop (n + 1) held') taken' left' before written'
+      after_turn n at left_is line is run' new more answered written' w = record {
+        consumed = m.consumed ++ (take n held' ++ 10 ∷ []);
+        rest = f.rest;
+        text = m.text ++ more;
+        so_far = one_more files first run number m.consumed old now m.text m.so_far (take n held') run' new more at.none_before (subst (λ (l : List ℕ). Answered files l run run' now new more) is answered);
+        parts = parts'
+            ∙ ap (λ (l : List ℕ). m.consumed ++ (l ++ f.rest)) (at.feed ∙ sym (append_assoc (take n held') (10 ∷ []) (drop (n + 1) held')))
+            ∙ ap (λ (l : List ℕ). m.consumed ++ l) (append_assoc (take n held' ++ 10 ∷ []) (drop (n + 1) held') f.rest)
+            ∙ sym (append_assoc m.consumed (take n held' ++ 10 ∷ []) (drop (n + 1) held' ++ f.rest));
+        left_is = left_is;
+        taken_is = omega (arith, taken_is', ap length at.feed, length-append (take n held') (10 ∷ drop (n + 1) held'), length-append m.consumed (take n held' ++ 10 ∷ []), length-append (take n held') (10 ∷ []));
+        written_is = w ∙ ap (λ (l : List ℕ). Some l) (append_assoc before m.text more);
+      }
+
+-- the same in other words
+pub met_as : (files : Files) (first run : Run) (number : ℕ) (old now : View) (script held held' : List ℕ) (taken taken' : ℕ) (left : Option (List ℕ)) (before : List ℕ) (written : Option (List ℕ))
+    → held ≡ held' → taken ≡ taken' → Met files first run number old now script held taken left before written → Met files first run number old now script held' taken' left before written
+met_as files first run number old now script held held' taken taken' left before written held_is taken_is m =
+    subst (λ (l : List ℕ). Met files first run number old now script l taken' left before written) held_is
+    (subst (λ (n : ℕ). Met files first run number old now script held n left before written) taken_is m)
+
+-- A call on the log tells of the name and the size at that call, which are those at the start.
+module _ (stands : List ℕ → Image → List Item → Type 0) (lies : List ℕ → Image → Layout → Type 0) (name name' : List ℕ) (size size' : ℕ) (name_is : name' ≡ name) (size_is : size' ≡ size) where
+  as_first : (P : List ℕ → ℕ → Type 0) → P name' size' → P name size
+  as_first P there = subst (λ (n : List ℕ). P n size) name_is (subst (λ (s : ℕ). P name' s) size_is there)
+
+  pub ended_as : (line : List ℕ) (run : Run) (number : ℕ) (v w : View) (text : List ℕ) (ending : Ending)
+      → ((rest : Run → Report) → Ended (files_of stands lies name' size') run (one size' (command line) run number rest) v w text ending)
+      → (rest : Run → Report) → Ended (files_of stands lies name size) run (one size (command line) run number rest) v w text ending
+  ended_as line run number v w text ending e rest = as_first (λ n s. Ended (files_of stands lies n s) run (one s (command line) run number rest) v w text ending) (e rest)
+
+  pub last_as : (piece : List ℕ) (run : Run) (number : ℕ) (v w : View) (text : List ℕ) (ending : Ending)
+      → Ended (files_of stands lies name' size') run (last_piece size' Whole run number piece) v w text ending
+      → Ended (files_of stands lies name size) run (last_piece size Whole run number piece) v w text ending
+  last_as piece run number v w text ending e = as_first (λ n s. Ended (files_of stands lies n s) run (last_piece s Whole run number piece) v w text ending) e
+
+  pub answered_as : (line : List ℕ) (run run' : Run) (v w : View) (text : List ℕ)
+      → Answered (files_of stands lies name' size') line run run' v w text → Answered (files_of stands lies name size) line run run' v w text
+  answered_as line run run' v w text a = as_first (λ n s. Answered (files_of stands lies n s) line run run' v w text) a
+
+-- files of other names read as before, at a further call too
+pub others_further : (old mid new : View) (name name' : List ℕ) → name' ≡ name → KeepsOtherNames old mid name → KeepsOtherNames mid new name' → KeepsOtherNames old new name
+others_further old mid new name name' is first more q isnt = more q (λ same. isnt (same ∙ is)) ∙ first q isnt

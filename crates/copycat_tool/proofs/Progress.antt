@@ -1,0 +1,197 @@
+-- How far a run has come, and how it ends from there.
+use Rattle.std.proofs.Common.{◌≡◌, ℕ, ◌+◌, ◌≤◌, List, [], ◌∷◌, ◌++◌, length, take, Option, false, refl, ap, sym, ◌∙◌, subst, arith, append_assoc, length-append}
+use Rattle.std.proofs.lemmas.List.{append-nil}
+use Rattle.std.proofs.Math.Seq.{take-append-add, drop-append-add}
+use Rattle.disk_model.specs.Image.{Image}
+use Rattle.disk_model.specs.View.{View, MayLeave, LeavesOnly, IsSound}
+use Rattle.disk_model.proofs.Moments.{started, goes_further, weaker}
+use Rattle.host_types.specs.declared.entry.Offer.{Offer}
+use Rattle.log_model.specs.Log.{Item}
+use Rattle.log_model.specs.Layout.{Layout, alone}
+use Rattle.log_model.specs.Script.{has_feed}
+use Rattle.log_model.specs.Report.{Run, Answer, Report, Cut, report, one, in_front, answer, after, items, printed, print_line}
+use Rattle.log_model.specs.declared.Ending.{Ending}
+use Rattle.log_model.specs.declared.Ending.TheVariants.{Done, Fault, TooLong, ReadFault, WriteFault, DiskFault, NoMemory}
+use Rattle.copycat_tool.specs.Runs.{Files, files_of, IsKept, HasPrefix, Ended, EndsAs, WhereWhole, IsComplete, IsPartOfNext, Answered, sure}
+use Rattle.copycat_tool.proofs.ReportLemmas.{report_at}
+use Rattle.copycat_tool.proofs.Prefixes.{printed-append, items-append, after-nil, after-append, all_of, longer}
+
+-- so many lines were read to their end and answered
+pub record SoFar (files : Files) (first run : Run) (number : ℕ) (consumed : List ℕ) (old now : View) (text : List ℕ) : Type 0 where
+  pub done : List Answer
+  pub text_is : text ≡ printed done
+  pub run_is : run ≡ after files.size first done
+  pub goes_on : (cut : Cut) (rest : List ℕ) → report files.size first 1 cut (consumed ++ rest) ≡ in_front done (report files.size run number cut rest)
+  pub any_moment : LeavesOnly old now (HasPrefix files.stands run.log (length first.log))
+
+-- between two calls: whatever a crash leaves now is this log, and its files lie as the run says
+pub record IsAtRest (files : Files) (v : View) (run : Run) : Type 0 where
+  pub sound : IsSound v
+  pub kept : IsKept files.stands v run.log
+  pub laid_out : files.lies v.reading (alone run.layout)
+
+-- a log that is ready is at rest, under the name that it had before
+pub at_rest_as : (stands : List ℕ → Image → List Item → Type 0) (lies : List ℕ → Image → Layout → Type 0) (name name' : List ℕ) (size : ℕ) (v : View) (run : Run) → name' ≡ name
+    → IsSound v → IsKept (stands name') v run.log → lies name' v.reading (alone run.layout) → IsAtRest (files_of stands lies name size) v run
+at_rest_as stands lies name name' size v run is sound kept laid_out = record {
+  sound = sound;
+  kept = λ image may. subst (λ (n : List ℕ). stands n image run.log) is (kept image may);
+  laid_out = subst (λ (n : List ℕ). lies n v.reading (alone run.layout)) is laid_out;
+}
+
+module _ (files : Files) where
+  abbrev stands : Image → List Item → Type 0
+  stands = files.stands
+
+  pub at_first : (first : Run) (v : View) → IsAtRest files v first → SoFar files first first 1 [] v v []
+  at_first first v rest = record {
+    done = [];
+    text_is = refl;
+    run_is = sym (after-nil files.size first);
+    goes_on = λ cut rest. refl;
+    any_moment = started v (HasPrefix stands first.log (length first.log)) rest.sound (λ image may. all_of stands first.log (length first.log) image (omega arith) (rest.kept image may));
+  }
+
+  -- nothing was written and nothing stored
+  pub stays : (run : Run) (reported : Report) (v : View) (ending : Ending) → IsAtRest files v run → EndsAs ending reported 0 0 [] → sure ending 0 0 ≡ 0
+      → WhereWhole ending (files.lies v.reading (alone (after files.size run reported.answers).layout)) → Ended files run reported v v [] ending
+  stays run reported v ending rest ends_as sure_is layout =
+      let all : (n : ℕ) (image : Image) → n ≤ length run.log → MayLeave v image → HasPrefix stands (run.log ++ []) n image =
+      λ n image le may. longer stands run.log [] n n image (omega arith) (all_of stands run.log n image le (rest.kept image may)) in
+      record {
+        whole = 0;
+        part = [];
+        text_is = refl;
+        stored = 0;
+        not_behind = omega arith;
+        one_ahead = omega arith;
+        ends_as = ends_as;
+        any_moment = started v _ rest.sound (λ image may. all (length run.log) image (omega arith) may);
+        at_exit = λ image may. subst (λ (n : ℕ). HasPrefix stands (run.log ++ []) (length (run.log ++ items (take n reported.answers))) image) (sym sure_is)
+            (all (length (run.log ++ [])) image (omega (arith, length-append run.log (items []))) may);
+        layout = layout;
+      }
+
+  module _ (first run : Run) (number : ℕ) (consumed : List ℕ) (old now : View) (text : List ℕ) (so_far : SoFar files first run number consumed old now text) where
+    abbrev done : List Answer
+    done = so_far.done
+
+    log_is : run.log ≡ first.log ++ items done
+    log_is = ap (λ (r : Run). r.log) so_far.run_is
+
+    shorter : length first.log ≤ length run.log
+    shorter = omega (arith, ap length log_is, length-append first.log (items done))
+
+    -- one line more
+    pub one_more : (line : List ℕ) (run' : Run) (new : View) (more : List ℕ) → has_feed line ≡ false → Answered files line run run' now new more
+        → SoFar files first run' (number + 1) (consumed ++ (line ++ 10 ∷ [])) old new (text ++ more)
+    one_more line run' new more none answered =
+        let this = answer run answered.offer in
+        let log_more : run'.log ≡ run.log ++ items (this ∷ []) = ap (λ (r : Run). r.log) answered.run_is in
+        record {
+          done = done ++ this ∷ [];
+          text_is = ap (λ (l : List ℕ). l ++ more) so_far.text_is
+              ∙ ap (λ (l : List ℕ). printed done ++ l) (answered.text_is ∙ sym (append-nil (print_line this)))
+              ∙ sym (printed-append done (this ∷ []));
+          run_is = answered.run_is
+              ∙ ap (λ (r : Run). after files.size r (this ∷ [])) so_far.run_is
+              ∙ after-append files.size first done (this ∷ []);
+          goes_on = λ cut rest.
+              ap (λ (l : List ℕ). report files.size first 1 cut l) (append_assoc consumed (line ++ 10 ∷ []) rest ∙ ap (λ (l : List ℕ). consumed ++ l) (append_assoc line (10 ∷ []) rest))
+              ∙ so_far.goes_on cut (line ++ 10 ∷ rest)
+              ∙ ap (λ (r : Report). in_front done r) (report_at files.size run number cut line rest none)
+              ∙ ap (λ (t : Option Offer). in_front done (one files.size t run number (λ run. report files.size run (number + 1) cut rest))) answered.is_offer
+              ∙ ap (λ (r : Run). in_front done (in_front (this ∷ []) (report files.size r (number + 1) cut rest))) (sym answered.run_is)
+              ∙ regroup this (report files.size run' (number + 1) cut rest);
+          any_moment = goes_further old now new (HasPrefix stands run'.log (length first.log))
+              (weaker old now _ _ so_far.any_moment (λ image has. subst (λ (l : List Item). HasPrefix stands l (length first.log) image) (sym log_more) (longer stands run.log (items (this ∷ [])) _ _ image (omega arith) has)))
+              (weaker now new _ _ answered.any_moment (λ image has. record { count = has.count; enough = omega (arith, shorter, has.enough); within = has.within; is = has.is }));
+        }
+      where
+        regroup : (this : Answer) (r : Report) → in_front done (in_front (this ∷ []) r) ≡ in_front (done ++ this ∷ []) r
+        regroup this r = ap (λ (l : List Answer). record { answers = l; ending = r.ending }) (sym (append_assoc done (this ∷ []) r.answers))
+
+  -- what comes behind some answers
+  module _ (first run : Run) (old now : View) (text : List ℕ) (done : List Answer) (text_is : text ≡ printed done) (run_is : run ≡ after files.size first done)
+      (left : LeavesOnly old now (HasPrefix stands run.log (length first.log))) where
+    log_is' : run.log ≡ first.log ++ items done
+    log_is' = ap (λ (r : Run). r.log) run_is
+
+    no_longer : length first.log ≤ length run.log
+    no_longer = omega (arith, ap length log_is', length-append first.log (items done))
+
+    module _ (rest : Report) (new : View) (more : List ℕ) (ending : Ending) (e : Ended files run rest now new more ending) where
+      abbrev all : List Answer
+      all = done ++ rest.answers
+
+      front : (n : ℕ) → take (length done + n) all ≡ done ++ take n rest.answers
+      front n = take-append-add done rest.answers n
+
+      stored_log : (n : ℕ) → first.log ++ items (take (length done + n) all) ≡ run.log ++ items (take n rest.answers)
+      stored_log n =
+          ap (λ (l : List Answer). first.log ++ items l) (front n)
+          ∙ ap (λ (l : List Item). first.log ++ l) (items-append done (take n rest.answers))
+          ∙ sym (append_assoc first.log (items done) (items (take n rest.answers)))
+          ∙ ap (λ (l : List Item). l ++ items (take n rest.answers)) (sym log_is')
+
+      run_after : after files.size run rest.answers ≡ after files.size first all
+      run_after = ap (λ (r : Run). after files.size r rest.answers) run_is ∙ after-append files.size first done rest.answers
+
+      complete : (x : Ending) → IsComplete x rest e.whole e.stored e.part → IsComplete x (in_front done rest) (length done + e.whole) (length done + e.stored) e.part
+      complete x is = record {
+        ending_is = is.ending_is;
+        all = omega (arith, is.all, length-append done rest.answers);
+        nothing_ahead = omega (arith, is.nothing_ahead);
+        no_part = is.no_part;
+      }
+
+      part_of_next : IsPartOfNext rest.answers e.whole e.part → IsPartOfNext all (length done + e.whole) e.part
+      part_of_next is = record {
+        next = is.next;
+        behind = is.behind;
+        is_next = drop-append-add done rest.answers e.whole ∙ is.is_next;
+        count = is.count;
+        not_all = is.not_all;
+        part_is = is.part_is;
+      }
+
+      ends_so : (x : Ending) → EndsAs x rest e.whole e.stored e.part → EndsAs x (in_front done rest) (length done + e.whole) (length done + e.stored) e.part
+      ends_so Done is = complete Done is
+      ends_so (Fault n) is = complete (Fault n) is
+      ends_so TooLong is = complete TooLong is
+      ends_so ReadFault is = complete ReadFault is
+      ends_so WriteFault is = part_of_next is
+      ends_so DiskFault is = is
+      ends_so NoMemory is = is
+
+      sure_so : (x : Ending) (d w s : ℕ) → sure x (d + w) (d + s) ≡ d + sure x w s
+      sure_so Done d w s = refl
+      sure_so (Fault n) d w s = refl
+      sure_so TooLong d w s = refl
+      sure_so ReadFault d w s = refl
+      sure_so WriteFault d w s = refl
+      sure_so DiskFault d w s = refl
+      sure_so NoMemory d w s = refl
+
+      pub ends_after : Ended files first (in_front done rest) old new (text ++ more) ending
+      ends_after = record {
+        whole = length done + e.whole;
+        part = e.part;
+        text_is = ap (λ (l : List ℕ). l ++ more) text_is
+            ∙ ap (λ (l : List ℕ). printed done ++ l) e.text_is
+            ∙ sym (append_assoc (printed done) (printed (take e.whole rest.answers)) e.part)
+            ∙ ap (λ (l : List ℕ). l ++ e.part) (sym (printed-append done (take e.whole rest.answers)) ∙ ap printed (sym (front e.whole)));
+        stored = length done + e.stored;
+        not_behind = omega (arith, e.not_behind);
+        one_ahead = omega (arith, e.one_ahead);
+        ends_as = ends_so ending e.ends_as;
+        any_moment = subst (λ (l : List Item). LeavesOnly old new (HasPrefix stands l (length first.log))) (sym (stored_log e.stored))
+            (goes_further old now new (HasPrefix stands (run.log ++ items (take e.stored rest.answers)) (length first.log))
+            (weaker old now _ _ left (λ image has. longer stands run.log (items (take e.stored rest.answers)) _ _ image (omega arith) has))
+            (weaker now new _ _ e.any_moment (λ image has. record { count = has.count; enough = omega (arith, no_longer, has.enough); within = has.within; is = has.is })));
+        at_exit = λ image may.
+            subst (λ (n : ℕ). HasPrefix stands (first.log ++ items (take (length done + e.stored) all)) (length (first.log ++ items (take n all))) image) (sym (sure_so ending (length done) e.whole e.stored))
+            (subst (λ (l : List Item). HasPrefix stands (first.log ++ items (take (length done + e.stored) all)) (length l) image) (sym (stored_log (sure ending e.whole e.stored)))
+            (subst (λ (l : List Item). HasPrefix stands l (length (run.log ++ items (take (sure ending e.whole e.stored) rest.answers))) image) (sym (stored_log e.stored)) (e.at_exit image may)));
+        layout = subst (λ (r : Run). WhereWhole ending (files.lies new.reading (alone r.layout))) run_after e.layout;
+      }

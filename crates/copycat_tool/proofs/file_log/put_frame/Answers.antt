@@ -1,0 +1,1 @@
+use Rattle.copycat_tool.proofs.file_log.put_frame.Goals as goal

@@ -1,0 +1,7 @@
+pub mod Closing
+pub mod FileLogs
+pub mod Reading
+pub mod Runs
+pub mod Logs
+pub mod Shown
+pub mod Words

@@ -1,0 +1,120 @@
+-- The log that a disk shows, where it fits what is remembered of it.
+use Rattle.std.proofs.Common.{◌≡◌, ◌⊎◌, inl, inr, ⊎_elim, ℕ, ◌+◌, ◌-◌, ◌≤◌, ◌<◌, max, Bool, true, false, List, [], ◌∷◌, ◌++◌, length, map, Option, Some, None, is_none, refl, sym, ap, subst, ◌∙◌, arith, Contains}
+use Rattle.std.proofs.lemmas.List.{length-map, append-nil}
+use Rattle.host_types.specs.declared.entry.Entry.{Entry}
+use Rattle.disk_model.specs.declared.file_id.FileId.{FileId}
+use Rattle.disk_model.specs.Image.{Image, place}
+use Rattle.disk_model.specs.View.{View, MayLeave, IsListed, Reads}
+use Rattle.segment_files.specs.Parse.{Numbered, Part, Found, Closed, Whole, Damaged, parse}
+use Rattle.segment_files.specs.Folder.{Folder, found, folder, IsChoice, AreOf, Stands}
+use Rattle.segment_set.specs.declared.parts.Tail.{Tail}
+use Rattle.segment_set.specs.Fits.{Fits, IsHeld, IsTailOf, TailFits, bare, log_of, last_of, parts_in}
+use Rattle.segment_set.proofs.AreLogs.{are_none, are_one}
+use Rattle.segment_set.proofs.Images.{nothing, only_one, here}
+use Rattle.segment_set.proofs.Loading.{bytes_of_whole}
+use Rattle.segment_set.proofs.Gaining.{whole_plain, list_at}
+use Rattle.log_model.specs.Log.{Item, stored, folded}
+use Rattle.log_model.specs.Layout.{Layout, PartLayout, alone, greatest_of, needs_file}
+use Rattle.copycat_tool.specs.FileLogs.{IsGreatest, IsThere, Lies, StandsFor, item_of, part_layout, shown}
+use Rattle.copycat_tool.specs.Logs.{stored-items, folded_last}
+
+-- a part that is read whole and begins with the first entry is a log
+one_is : (v : View) (name : List ℕ) (tail : Tail) (p : Part) → folder name v.reading tail.id ≡ Whole p → AreOf (p ∷ []) (log_of (p ∷ []))
+one_is v name tail p whole =
+    subst (λ (l : List Entry). AreOf (p ∷ []) l) (sym (ap bare (append-nil p.entries)))
+    (are_one tail.id p (whole_plain v name tail.id p whole) tail.base_is)
+
+-- WHAT THE PARTS ARE
+pub parts_are : (v : View) (name : List ℕ) (tail : Option Tail) (greatest : ℕ) → Fits v name tail greatest → AreOf (parts_in v.reading name tail) (log_of (parts_in v.reading name tail))
+parts_are v name None greatest fits = are_none
+parts_are v name (Some tail) greatest fits =
+    let t = fits.tail_is in
+    subst (λ (ps : List Part). AreOf ps (log_of ps)) (sym (list_at v name tail t.part t.whole)) (one_is v name tail t.part t.whole)
+
+pub log_length : (v : View) (name : List ℕ) (tail : Option Tail) (greatest : ℕ) → Fits v name tail greatest → length (log_of (parts_in v.reading name tail)) ≡ last_of tail
+log_length v name None greatest fits = refl
+log_length v name (Some tail) greatest fits =
+    let t = fits.tail_is in
+    let tile = (one_is v name tail t.part t.whole).tile in
+    let next : t.part.last + 1 ≡ length (log_of (t.part ∷ [])) + 1 = tile.2 in
+    ap (λ (ps : List Part). length (log_of ps)) (list_at v name tail t.part t.whole) ∙ omega (arith, next, t.last)
+
+pub last_is : (v : View) (name : List ℕ) (tail : Option Tail) (greatest : ℕ) → Fits v name tail greatest → length (shown v name tail greatest).log ≡ last_of tail
+last_is v name tail greatest fits = length-map (log_of (parts_in v.reading name tail)) item_of ∙ log_length v name tail greatest fits
+
+pub folded_last_is : (v : View) (name : List ℕ) (tail : Option Tail) (greatest : ℕ) → Fits v name tail greatest → (folded (shown v name tail greatest).log).last ≡ last_of tail
+folded_last_is v name tail greatest fits = folded_last (shown v name tail greatest).log ∙ last_is v name tail greatest fits
+
+pub needs_file_is : (v : View) (name : List ℕ) (tail : Option Tail) (greatest : ℕ) → Fits v name tail greatest → needs_file (shown v name tail greatest).layout ≡ is_none tail
+needs_file_is v name None greatest fits = refl
+needs_file_is v name (Some tail) greatest fits =
+    let t = fits.tail_is in
+    ap (λ (ps : List Part). needs_file (record { parts = map part_layout ps; greatest = greatest })) (list_at v name tail t.part t.whole)
+
+-- WHICH FILES THERE ARE
+some_whole : (v : View) (name : List ℕ) (tail : Tail) (part : Part) → folder name v.reading tail.id ≡ Whole part → ((id : FileId) → IsListed v (place name id) → id ≡ tail.id) → IsChoice (folder name v.reading) (part ∷ [])
+some_whole v name tail part whole only = record {
+  stand = λ p has. subst (λ (q : Part). folder name v.reading q.id ≡ Whole q) (only_one part p has)
+      (ap (folder name v.reading) (whole_plain v name tail.id part whole).id_is ∙ whole);
+  cover = λ id q is.
+      let b = bytes_of_whole v name id q is in
+      let same : Whole part ≡ Whole q = sym whole ∙ ap (folder name v.reading) (sym (only id (b.0, b.1))) ∙ is in
+      subst (λ (r : Part). Contains (part ∷ []) r) (cc same) (here part []);
+  undamaged = λ id at is. elim (listed_or_closed v name id) [
+    | inl listed ↦ absurd (cc (is, ap (folder name v.reading) (only id listed), whole))
+    | inr closed ↦ absurd (cc (is, closed))
+  ];
+  one = omega arith;
+}
+  where
+    listed_or_closed : (v : View) (name : List ℕ) (id : FileId) → IsListed v (place name id) ⊎ (folder name v.reading id ≡ Closed)
+    listed_or_closed v name id = at (v.reading (place name id)) refl
+      where
+        at : (o : Option (List ℕ)) → v.reading (place name id) ≡ o → IsListed v (place name id) ⊎ (folder name v.reading id ≡ Closed)
+        at None is = inr (ap (found id) is)
+        at (Some b) is = inl (b, is)
+
+none_whole : (v : View) (name : List ℕ) → ((id : FileId) → IsListed v (place name id) → ⊥) → IsChoice (folder name v.reading) []
+none_whole v name none = record {
+  stand = λ p has. absurd (nothing p has);
+  cover = λ id q is. let b = bytes_of_whole v name id q is in absurd (none id (b.0, b.1));
+  undamaged = λ id at is. absurd (damaged id (v.reading (place name id)) refl is);
+  one = omega arith;
+}
+  where
+    damaged : (id : FileId) {at : ℕ} (o : Option (List ℕ)) → v.reading (place name id) ≡ o → found id (v.reading (place name id)) ≡ Damaged at → ⊥
+    damaged id None is d = cc (d, is)
+    damaged id (Some b) is d = none id (b, is)
+
+pub choice_is : (v : View) (name : List ℕ) (tail : Option Tail) (greatest : ℕ) → Fits v name tail greatest → IsChoice (folder name v.reading) (parts_in v.reading name tail)
+choice_is v name None greatest fits = none_whole v name fits.only
+choice_is v name (Some tail) greatest fits =
+    let t = fits.tail_is in
+    subst (IsChoice (folder name v.reading)) (sym (list_at v name tail t.part t.whole)) (some_whole v name tail t.part t.whole fits.only)
+
+greatest_is : (v : View) (name : List ℕ) (tail : Option Tail) (greatest : ℕ) → Fits v name tail greatest → IsGreatest v.reading name (greatest_of (map part_layout (parts_in v.reading name tail)))
+greatest_is v name None greatest fits = record { above = λ id there. absurd (fits.only id there); taken = inl refl }
+greatest_is v name (Some tail) greatest fits =
+    let t = fits.tail_is in
+    let b = bytes_of_whole v name tail.id t.part t.whole in
+    let is : greatest_of (map part_layout (t.part ∷ [])) ≡ tail.id.generation = omega (arith, ap (λ (i : FileId). i.generation) (whole_plain v name tail.id t.part t.whole).id_is) in
+    subst (λ (ps : List Part). IsGreatest v.reading name (greatest_of (map part_layout ps))) (sym (list_at v name tail t.part t.whole))
+    (record {
+      above = λ id there. omega (arith, is, ap (λ (i : FileId). i.generation) (fits.only id there));
+      taken = inr (tail.id, (b.0, b.1), sym is);
+    })
+
+-- what a crash leaves stands for the log that is shown
+pub is_kept : (v : View) (name : List ℕ) (tail : Option Tail) (greatest : ℕ) → Fits v name tail greatest → IsHeld v name tail → (image : Image) → MayLeave v image → StandsFor name image (shown v name tail greatest).log
+is_kept v name tail greatest fits held image may =
+    subst (λ (l : List Entry). Stands (folder name image) l) (sym (stored-items (log_of (parts_in v.reading name tail))))
+    (record { parts = parts_in v.reading name tail; choice = held image may; are = parts_are v name tail greatest fits })
+
+-- the files lie so, with no others beside them
+pub is_laid_out : (v : View) (name : List ℕ) (tail : Option Tail) (greatest : ℕ) → Fits v name tail greatest → Lies name v.reading (alone (shown v name tail greatest).layout)
+is_laid_out v name tail greatest fits = record {
+  parts = parts_in v.reading name tail;
+  choice = choice_is v name tail greatest fits;
+  parts_are = refl;
+  greatest = greatest_is v name tail greatest fits;
+}

@@ -1,0 +1,167 @@
+// A log of ticks in the files of a disk.
+ghost use Rattle.std.specs.Prelude.{◌≡◌, ◌<◌, ◌≤◌, ◌+◌, ◌⊎◌, ◌∷◌, [], ℕ, None, IsTrue, IfSome, IfNone, OnOk};
+ghost use Rattle.host_types.specs.Limits.{index_limit, last_limit};
+ghost use Rattle.disk_model.specs.View.{LeavesOnly, HasCause};
+ghost use Rattle.segment_files.specs.Spelling.{tick_at};
+ghost use Rattle.segment_set.specs.Fits.{IsFrameFor, IsHeld, last_of};
+ghost use Rattle.log_model.specs.Log.{Given};
+ghost use Rattle.log_model.specs.Report.{outcome};
+ghost use Rattle.copycat_tool.specs.Runs.{KeepsOtherNames, OldOrNew};
+ghost use Rattle.copycat_tool.specs.FileLogs.{IsReady, Lies, StandsFor, shown, with_one};
+
+use crate::log::TickLog;
+use disk_model::{Disk, DiskFault};
+use host_types::{Index, NoMemory, Offer, Refusal, Time};
+use log_model::Outcome;
+use segment_files::tick_frame;
+use segment_set::Parts;
+use std::alloc::Global;
+
+/// The greatest index of a log.
+const LAST_LIMIT: Index = 4294967295;
+
+/// A log that was opened, with the disk that holds its files.
+#[derive(Drop)]
+pub struct FileLog<D: Disk> {
+    pub disk: D,
+    parts: Parts,
+    /// The log's time: that of its last entry, or 0.
+    time: Time,
+    /// The size of a new file.
+    size: u32,
+    /// Room for a frame. It is used again for each.
+    frame: Vec<u8>,
+    ghost size_first: { 2 ≤ size },
+    ghost size_last: { size ≤ 65536 },
+}
+
+/// Makes the frame of a tick, for the entry behind this last index.
+fn put_frame(frame: &mut Vec<u8>, last: Index, time: Time) -> Result<(), NoMemory>
+    requires { last < last_limit }
+    ensures { OnOk result (IsFrameFor last frame.new.items (tick_at time)) }
+{
+    frame.clear();
+    tick_frame(last + 1, time, frame)
+}
+
+impl<D: Disk> FileLog<D> {
+    /// The log with these parts on this disk. Its new files get this size.
+    pub fn new(alloc: Global, disk: D, parts: Parts, time: Time, size: u32) -> FileLog<D>
+        requires least { 2 ≤ size }
+        requires most { size ≤ 65536 }
+        ensures disk { result.disk ≡ disk }
+        ensures parts { result.parts ≡ parts }
+        ensures time { result.time ≡ time }
+        ensures size { result.size ≡ size }
+    {
+        FileLog {
+            disk,
+            parts,
+            time,
+            size,
+            frame: Vec::new(alloc),
+        }
+    }
+
+    /// Why an offer isn't taken, if so.
+    fn refusal(&self, offer: &Offer) -> Option<Refusal>
+        ensures some { IfSome result (λ why. IsTrue D.tells → IsReady (D.view self.now.disk) self.now.parts.name self.now.parts.tail self.now.parts.greatest self.now.time
+            → outcome (shown (D.view self.now.disk) self.now.parts.name self.now.parts.tail self.now.parts.greatest) offer.now ≡ Outcome.Refused why) }
+        ensures none { IfNone result (IsTrue D.tells → IsReady (D.view self.now.disk) self.now.parts.name self.now.parts.tail self.now.parts.greatest self.now.time
+            → outcome (shown (D.view self.now.disk) self.now.parts.name self.now.parts.tail self.now.parts.greatest) offer.now ≡ Outcome.Stored (last_of self.now.parts.tail + 1)) }
+        ensures room { IfNone result (last_of self.now.parts.tail < last_limit) }
+        ensures generation { IfNone result (self.now.parts.tail ≡ None → self.now.parts.greatest < index_limit) }
+    {
+        if offer.time < self.time {
+            return Some(Refusal::Time { now: self.time });
+        }
+        if self.parts.last() >= LAST_LIMIT {
+            return Some(Refusal::LogEnd);
+        }
+        if self.parts.needs_file() && self.parts.next_generation().is_none() {
+            return Some(Refusal::GenEnd {
+                generation: self.parts.greatest,
+            });
+        }
+        None
+    }
+
+    /// Stores an offer that isn't refused.
+    fn store(&mut self, alloc: Global, offer: &Offer) -> Result<(), DiskFault>
+        requires ready { IsTrue D.tells → IsReady (D.view self.old.disk) self.old.parts.name self.old.parts.tail self.old.parts.greatest self.old.time }
+        requires room { last_of self.old.parts.tail < last_limit }
+        requires generation { self.old.parts.tail ≡ None → self.old.parts.greatest < index_limit }
+        ensures ready { OnOk result (IsTrue D.tells → IsReady (D.view self.new.disk) self.new.parts.name self.new.parts.tail self.new.parts.greatest self.new.time) }
+        ensures run { OnOk result (IsTrue D.tells → shown (D.view self.new.disk) self.new.parts.name self.new.parts.tail self.new.parts.greatest
+            ≡ with_one self.old.size (shown (D.view self.old.disk) self.old.parts.name self.old.parts.tail self.old.parts.greatest) (Given offer.now)) }
+        ensures any_moment { IsTrue D.tells → IsHeld (D.view self.old.disk) self.old.parts.name self.old.parts.tail
+            → LeavesOnly (D.view self.old.disk) (D.view self.new.disk) (OldOrNew (StandsFor self.old.parts.name)
+            (shown (D.view self.old.disk) self.old.parts.name self.old.parts.tail self.old.parts.greatest).log
+            (with_one self.old.size (shown (D.view self.old.disk) self.old.parts.name self.old.parts.tail self.old.parts.greatest) (Given offer.now)).log) }
+        ensures held { OnOk result (IsTrue D.tells → IsHeld (D.view self.old.disk) self.old.parts.name self.old.parts.tail → IsHeld (D.view self.new.disk) self.new.parts.name self.new.parts.tail) }
+        ensures others { IsTrue D.tells → KeepsOtherNames (D.view self.old.disk) (D.view self.new.disk) self.old.parts.name }
+        ensures name { self.new.parts.name ≡ self.old.parts.name }
+        ensures size { self.new.size ≡ self.old.size }
+        ensures cause { HasCause (D.faults self.old.disk) (D.faults self.new.disk) result }
+    {
+        match put_frame(&mut self.frame, self.parts.last(), offer.time) {
+            Ok(()) => {}
+            Err(_) => return Err(DiskFault::NoMemory),
+        }
+        match self
+            .parts
+            .append(alloc, &mut self.disk, &self.frame, self.size)
+        {
+            Ok(()) => {
+                self.time = offer.time;
+                Ok(())
+            }
+            Err(fault) => Err(fault),
+        }
+    }
+}
+
+impl<D: Disk> TickLog for FileLog<D> {
+    ghost tells = { D.tells };
+
+    ghost view = { λ s. D.view s.disk };
+
+    ghost faults = { λ s. D.faults s.disk };
+
+    ghost name = { λ s. s.parts.name };
+
+    ghost size = { λ s. s.size };
+
+    ghost stands = { StandsFor };
+
+    ghost lies = { Lies };
+
+    ghost run = { λ s. shown (D.view s.disk) s.parts.name s.parts.tail s.parts.greatest };
+
+    ghost ready = { λ s. IsTrue D.tells → IsReady (D.view s.disk) s.parts.name s.parts.tail s.parts.greatest s.time };
+
+    ghost held = { λ s. IsHeld (D.view s.disk) s.parts.name s.parts.tail };
+
+    ghost use Rattle.copycat_tool.specs.Shown.{is_kept, is_laid_out};
+
+    ghost sound = { λ s t. D.sound s.disk t };
+
+    ghost kept = { λ s t ready held. is_kept (D.view s.disk) s.parts.name s.parts.tail s.parts.greatest (ready t).fits held };
+
+    ghost laid_out = { λ s t ready. is_laid_out (D.view s.disk) s.parts.name s.parts.tail s.parts.greatest (ready t).fits };
+
+    fn last(&self) -> Index {
+        self.parts.last()
+    }
+
+    fn offer(&mut self, alloc: Global, offer: &Offer) -> Result<Outcome, DiskFault> {
+        if let Some(why) = self.refusal(offer) {
+            return Ok(Outcome::Refused { why });
+        }
+        let index = self.parts.last() + 1;
+        match self.store(alloc, offer) {
+            Ok(()) => Ok(Outcome::Stored { index }),
+            Err(fault) => Err(fault),
+        }
+    }
+}

@@ -1,0 +1,20 @@
+//! The program: a script over a log.
+#![tactic(auto)]
+
+mod answers;
+mod closing;
+mod file_log;
+mod held;
+mod lines;
+mod log;
+mod opening;
+mod reader;
+mod texts;
+mod turns;
+mod words;
+
+pub use answers::answer_script;
+pub use closing::{Status, close_run, run_script};
+pub use file_log::FileLog;
+pub use log::TickLog;
+pub use words::{USAGE, read_words};
