@@ -4,6 +4,7 @@ pub mod OfferLemmas
 pub mod OpenedLemmas
 pub mod OpeningLemmas
 pub mod Prefixes
+pub mod ProgramLemmas
 pub mod Progress
 pub mod ReadingLemmas
 pub mod RefusalLemmas

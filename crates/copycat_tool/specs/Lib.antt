@@ -1,5 +1,6 @@
 pub mod Closing
 pub mod FileLogs
+pub mod Programs
 pub mod Reading
 pub mod Runs
 pub mod Logs

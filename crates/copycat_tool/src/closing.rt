@@ -16,7 +16,7 @@ use std::alloc::Global;
 pub struct Status(pub u8);
 
 /// Prints a last line. The status is 5 where that fails.
-fn put_last<O: Sink>(out: &mut O, line: &[u8], wanted: u8) -> Status
+pub(crate) fn put_last<O: Sink>(out: &mut O, line: &[u8], wanted: u8) -> Status
     ensures closes { (before : List ℕ) → O.written out.old ≡ Some before → (text : List ℕ)
         × (O.written out.new ≡ Some (before ++ text)) × Closes line.now wanted result.0 text }
     ensures sink { result.0 ≡ 5 → (wanted ≡ 5) ⊎ Rose (O.faults out.old) (O.faults out.new) }

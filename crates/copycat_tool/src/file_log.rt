@@ -24,13 +24,13 @@ const LAST_LIMIT: Index = 4294967295;
 #[derive(Drop)]
 pub struct FileLog<D: Disk> {
     pub disk: D,
-    parts: Parts,
+    pub parts: Parts,
     /// The log's time: that of its last entry, or 0.
-    time: Time,
+    pub time: Time,
     /// The size of a new file.
-    size: u32,
+    pub size: u32,
     /// Room for a frame. It is used again for each.
-    frame: Vec<u8>,
+    pub frame: Vec<u8>,
     ghost size_first: { 2 ≤ size },
     ghost size_last: { size ≤ 65536 },
 }
@@ -45,24 +45,6 @@ fn put_frame(frame: &mut Vec<u8>, last: Index, time: Time) -> Result<(), NoMemor
 }
 
 impl<D: Disk> FileLog<D> {
-    /// The log with these parts on this disk. Its new files get this size.
-    pub fn new(alloc: Global, disk: D, parts: Parts, time: Time, size: u32) -> FileLog<D>
-        requires least { 2 ≤ size }
-        requires most { size ≤ 65536 }
-        ensures disk { result.disk ≡ disk }
-        ensures parts { result.parts ≡ parts }
-        ensures time { result.time ≡ time }
-        ensures size { result.size ≡ size }
-    {
-        FileLog {
-            disk,
-            parts,
-            time,
-            size,
-            frame: Vec::new(alloc),
-        }
-    }
-
     /// Why an offer isn't taken, if so.
     fn refusal(&self, offer: &Offer) -> Option<Refusal>
         ensures some { IfSome result (λ why. IsTrue D.tells → IsReady (D.view self.now.disk) self.now.parts.name self.now.parts.tail self.now.parts.greatest self.now.time

@@ -8,13 +8,17 @@ mod held;
 mod lines;
 mod log;
 mod opening;
+mod program;
 mod reader;
 mod texts;
 mod turns;
+mod unopened;
 mod words;
 
 pub use answers::answer_script;
 pub use closing::{Status, close_run, run_script};
 pub use file_log::FileLog;
 pub use log::TickLog;
+pub use opening::{Start, open_log};
+pub use program::run;
 pub use words::{USAGE, read_words};

@@ -17,6 +17,7 @@ use segment_set::{OpenError, Parts, Tail};
 use std::alloc::Global;
 
 /// What an opening finds: the files of a log, and its time.
+#[derive(Clone, Copy)]
 pub struct Start {
     pub parts: Parts,
     pub time: Time,

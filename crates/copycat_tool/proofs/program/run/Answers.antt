@@ -1,0 +1,23 @@
+use Rattle.std.proofs.Common.{◌≡◌, ◌<◌, ◌⊎◌, ◌++◌, ℕ, List, Some, sym, ◌∙◌, subst}
+use Rattle.script_io.specs.Streams.{Rose}
+use Rattle.segment_files.specs.Folder.{folder, IsFault}
+use Rattle.segment_set.specs.Fits.{IsEmptyWhereNone}
+use Rattle.copycat_tool.specs.FileLogs.{StandsFor}
+use Rattle.copycat_tool.specs.Runs.{InOrder}
+use Rattle.copycat_tool.specs.Programs.{RunsInOrder}
+use Rattle.copycat_tool.proofs.program.run.Goals as goal
+
+pub returns-in-Some-clause-ran : goal.returns-in-Some-clause-ran
+returns-in-Some-clause-ran g c = λ t name bytes before named left was log least order empty.
+    let same : c.in-Some.name ≡ name = cc (sym c.in-Some.is ∙ c.read_words.ensures ∙ named) in
+    let v = g.D.Disk.view c.args.disk in
+    subst (λ (n : List ℕ). InOrder (StandsFor n) v log least → IsEmptyWhereNone v n → (text : List ℕ)
+    × (g.O.Sink.written c.run_log.new.out ≡ Some (before ++ text))
+    × RunsInOrder n 1024 log least bytes (g.I.Source.left c.run_log.new.script) v (g.D.Disk.view c.run_log.result.1) text c.run_log.result.0.0
+    (Rose (g.I.Source.faults c.args.script.now) (g.I.Source.faults c.run_log.new.script)) (g.D.Disk.faults c.args.disk < g.D.Disk.faults c.run_log.result.1)) same
+    (λ order empty. c.run_log.ensures.ran t bytes before left was log least order empty) order empty
+
+pub returns-in-Some-clause-damage_told : goal.returns-in-Some-clause-damage_told
+returns-in-Some-clause-damage_told g c = λ t name id named fault.
+    let same : c.in-Some.name ≡ name = cc (sym c.in-Some.is ∙ c.read_words.ensures ∙ named) in
+    c.run_log.ensures.damage_told t id (subst (λ (n : List ℕ). IsFault (folder n (g.D.Disk.view c.args.disk).reading) id) (sym same) fault)

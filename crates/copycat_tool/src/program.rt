@@ -1,0 +1,108 @@
+// The program: its words, the log that they name, and the script.
+ghost use Rattle.std.specs.Prelude.{◌≡◌, ◌<◌, ◌≤◌, ◌++◌, ◌⊎◌, ℕ, List, Option, Some, None, IsTrue, map};
+ghost use Rattle.script_io.specs.Streams.{Rose};
+ghost use Rattle.disk_model.specs.declared.file_id.FileId.{FileId};
+ghost use Rattle.segment_files.specs.Folder.{folder, IsFault};
+ghost use Rattle.segment_set.specs.Fits.{IsEmptyWhereNone};
+ghost use Rattle.log_model.specs.Log.{Item};
+ghost use Rattle.copycat_tool.specs.Words.{run_name};
+ghost use Rattle.copycat_tool.specs.Runs.{Closes, InOrder, KeepsOtherNames};
+ghost use Rattle.copycat_tool.specs.FileLogs.{StandsFor};
+ghost use Rattle.copycat_tool.specs.Programs.{IsStatus, RunsInOrder, TellsDamage, usage_line};
+
+use crate::closing::{Status, put_last, run_script};
+use crate::file_log::FileLog;
+use crate::opening::open_log;
+use crate::unopened::close_unopened;
+use crate::words::{USAGE, read_words};
+use disk_model::Disk;
+use host_types::LogName;
+use script_io::{Sink, Source};
+use std::alloc::Global;
+
+/// After how many entries the next file is begun, for files that are made now.
+const SEGMENT_SIZE: u32 = 1024;
+
+/// Runs a script over the log of a name.
+fn run_log<I: Source, D: Disk, O: Sink>(
+    alloc: Global,
+    name: &LogName,
+    script: &mut I,
+    disk: D,
+    out: &mut O,
+) -> (Status, D)
+    ensures ran { IsTrue D.tells → (bytes before : List ℕ) → I.left script.old ≡ Some bytes → O.written out.old ≡ Some before
+        → (log : List Item) (least : ℕ) → InOrder (StandsFor name.now) (D.view disk) log least → IsEmptyWhereNone (D.view disk) name.now → (text : List ℕ)
+        × (O.written out.new ≡ Some (before ++ text))
+        × RunsInOrder name.now 1024 log least bytes (I.left script.new) (D.view disk) (D.view result.1) text result.0.0
+        (Rose (I.faults script.old) (I.faults script.new)) (D.faults disk < D.faults result.1) }
+    ensures damaged { result.0.0 ≡ 7 → IsTrue D.tells → (before : List ℕ) → O.written out.old ≡ Some before
+        → TellsDamage name.now (D.view disk) (D.view result.1) before (O.written out.new) }
+    ensures damage_told { IsTrue D.tells → (id : FileId) → IsFault (folder name.now (D.view disk).reading) id → (result.0.0 ≡ 7) ⊎ (result.0.0 ≡ 5) ⊎ (result.0.0 ≡ 6) ⊎ (result.0.0 ≡ 8) }
+    ensures others { IsTrue D.tells → KeepsOtherNames (D.view disk) (D.view result.1) name.now }
+    ensures read { result.0.0 ≡ 4 → Rose (I.faults script.old) (I.faults script.new) }
+    ensures write { result.0.0 ≡ 5 → Rose (O.faults out.old) (O.faults out.new) }
+    ensures disk { result.0.0 ≡ 6 → D.faults disk < D.faults result.1 }
+    ensures no_usage { result.0.0 ≡ 2 → ⊥ }
+    ensures statuses { IsStatus result.0.0 }
+{
+    let mut disk = disk;
+    match open_log(alloc, &mut disk, name) {
+        Ok(start) => {
+            let mut log = FileLog {
+                disk,
+                parts: start.parts,
+                time: start.time,
+                size: SEGMENT_SIZE,
+                frame: Vec::new(alloc),
+            };
+            let status = run_script(alloc, script, &mut log, out);
+            let FileLog { disk, frame, .. } = log;
+            drop(frame);
+            (status, disk)
+        }
+        Err(error) => (close_unopened(alloc, name, error, out), disk),
+    }
+}
+
+/// Runs the command that the words are: it opens a log and answers a script over it (`docs/script.md`). The disk is
+/// given back.
+pub fn run<I: Source, D: Disk, O: Sink>(
+    alloc: Global,
+    words: &[Vec<u8>],
+    script: &mut I,
+    disk: D,
+    out: &mut O,
+) -> (Status, D)
+    // The words are no command exactly where the usage line is printed.
+    ensures usage { run_name (map (λ w. w.items) words.now) ≡ None → (before : List ℕ) → O.written out.old ≡ Some before → (text : List ℕ)
+        × (O.written out.new ≡ Some (before ++ text)) × Closes usage_line 2 result.0.0 text }
+    ensures usage_only { result.0.0 ≡ 2 → run_name (map (λ w. w.items) words.now) ≡ None }
+    ensures untouched { run_name (map (λ w. w.items) words.now) ≡ None → (result.1 ≡ disk) × (script.new ≡ script.old) }
+
+    // A folder that stands for a log, whatever a crash leaves of it: what is printed, and what the files stand for then.
+    ensures ran { IsTrue D.tells → (name bytes before : List ℕ) → run_name (map (λ w. w.items) words.now) ≡ Some name → I.left script.old ≡ Some bytes → O.written out.old ≡ Some before
+        → (log : List Item) (least : ℕ) → InOrder (StandsFor name) (D.view disk) log least → IsEmptyWhereNone (D.view disk) name → (text : List ℕ)
+        × (O.written out.new ≡ Some (before ++ text))
+        × RunsInOrder name 1024 log least bytes (I.left script.new) (D.view disk) (D.view result.1) text result.0.0
+        (Rose (I.faults script.old) (I.faults script.new)) (D.faults disk < D.faults result.1) }
+
+    // A folder that isn't right is told as such, and left as it is.
+    ensures damaged { result.0.0 ≡ 7 → IsTrue D.tells → (name before : List ℕ) → run_name (map (λ w. w.items) words.now) ≡ Some name → O.written out.old ≡ Some before
+        → TellsDamage name (D.view disk) (D.view result.1) before (O.written out.new) }
+    ensures damage_told { IsTrue D.tells → (name : List ℕ) (id : FileId) → run_name (map (λ w. w.items) words.now) ≡ Some name → IsFault (folder name (D.view disk).reading) id
+        → (result.0.0 ≡ 7) ⊎ (result.0.0 ≡ 5) ⊎ (result.0.0 ≡ 6) ⊎ (result.0.0 ≡ 8) }
+
+    ensures others { IsTrue D.tells → (name : List ℕ) → run_name (map (λ w. w.items) words.now) ≡ Some name → KeepsOtherNames (D.view disk) (D.view result.1) name }
+
+    // A fault is told only of what has failed.
+    ensures read { result.0.0 ≡ 4 → Rose (I.faults script.old) (I.faults script.new) }
+    ensures write { result.0.0 ≡ 5 → Rose (O.faults out.old) (O.faults out.new) }
+    ensures disk { result.0.0 ≡ 6 → D.faults disk < D.faults result.1 }
+    ensures statuses { IsStatus result.0.0 }
+{
+    match read_words(words) {
+        Some(name) => run_log(alloc, &name, script, disk, out),
+        None => (put_last(out, USAGE, 2), disk),
+    }
+}
