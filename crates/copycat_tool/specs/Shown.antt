@@ -8,11 +8,12 @@ use Rattle.disk_model.specs.View.{View, MayLeave, IsListed, Reads}
 use Rattle.segment_files.specs.Parse.{Numbered, Part, Found, Closed, Whole, Damaged, parse}
 use Rattle.segment_files.specs.Folder.{Folder, found, folder, IsChoice, AreOf, Stands}
 use Rattle.segment_set.specs.declared.parts.Tail.{Tail}
-use Rattle.segment_set.specs.Fits.{Fits, IsHeld, IsTailOf, TailFits, bare, log_of, last_of, parts_in}
+use Rattle.segment_set.specs.Fits.{Fits, IsEmptyWhereNone, IsHeld, IsTailOf, TailFits, bare, log_of, last_of, parts_in}
 use Rattle.segment_set.proofs.AreLogs.{are_none, are_one}
 use Rattle.segment_set.proofs.Images.{nothing, only_one, here}
 use Rattle.segment_set.proofs.Loading.{bytes_of_whole}
 use Rattle.segment_set.proofs.Gaining.{whole_plain, list_at}
+use Rattle.segment_set.proofs.Emptied.{held_empty}
 use Rattle.log_model.specs.Log.{Item, stored, folded}
 use Rattle.log_model.specs.Layout.{Layout, PartLayout, alone, greatest_of, needs_file}
 use Rattle.copycat_tool.specs.FileLogs.{IsGreatest, IsThere, Lies, StandsFor, item_of, part_layout, shown}
@@ -118,3 +119,7 @@ is_laid_out v name tail greatest fits = record {
   parts_are = refl;
   greatest = greatest_is v name tail greatest fits;
 }
+
+-- where no file is listed, nothing comes back
+pub reopens : (v : View) (name : List ℕ) (tail : Option Tail) (greatest : ℕ) → Fits v name tail greatest → IsHeld v name tail → IsEmptyWhereNone v name
+reopens v name tail greatest fits held = held_empty v name tail greatest fits held

@@ -25,6 +25,7 @@ fn answer_last<T: TickLog, O: Sink>(
         × (O.written out.new ≡ Some (before ++ text))
         × Ended (files_of T.stands T.lies (T.name log.old) (T.size log.old)) (T.run log.old)
         (last_piece (T.size log.old) Whole (T.run log.old) number piece.now) (T.view log.old) (T.view log.new) text result }
+    ensures reopens { IsTrue T.tells → T.held log.old → T.reopens (T.name log.old) (T.view log.new) }
     ensures others { IsTrue T.tells → KeepsOtherNames (T.view log.old) (T.view log.new) (T.name log.old) }
     ensures disk_later { T.faults log.old ≤ T.faults log.new }
     ensures sink_later { O.faults out.old ≤ O.faults out.new }
@@ -53,6 +54,7 @@ fn answer_lines<I: Source, T: TickLog, O: Sink>(
         × (O.written out.new ≡ Some (before ++ text))
         × Ended (files_of T.stands T.lies (T.name log.old) (T.size log.old)) (T.run log.old)
         (reported (T.size log.old) result (T.run log.old) bytes (I.left script.new)) (T.view log.old) (T.view log.new) text result }
+    ensures reopens { IsTrue T.tells → T.held log.old → T.reopens (T.name log.old) (T.view log.new) }
     ensures others { IsTrue T.tells → KeepsOtherNames (T.view log.old) (T.view log.new) (T.name log.old) }
     ensures source_later { I.faults script.old ≤ I.faults script.new }
     ensures disk_later { T.faults log.old ≤ T.faults log.new }
@@ -97,6 +99,7 @@ pub fn answer_script<I: Source, T: TickLog, O: Sink>(
         × (O.written out.new ≡ Some (before ++ text))
         × Ended (files_of T.stands T.lies (T.name log.old) (T.size log.old)) (T.run log.old)
         (all_reported (T.size log.old) result (T.run log.old) bytes (I.left script.new)) (T.view log.old) (T.view log.new) text result }
+    ensures reopens { IsTrue T.tells → T.held log.old → T.reopens (T.name log.old) (T.view log.new) }
     ensures others { IsTrue T.tells → KeepsOtherNames (T.view log.old) (T.view log.new) (T.name log.old) }
     ensures source_later { I.faults script.old ≤ I.faults script.new }
     ensures disk_later { T.faults log.old ≤ T.faults log.new }

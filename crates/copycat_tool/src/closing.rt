@@ -64,6 +64,7 @@ pub fn run_script<I: Source, T: TickLog, O: Sink>(
         × (O.written out.new ≡ Some (before ++ text))
         × Ran (files_of T.stands T.lies (T.name log.old) (T.size log.old)) (T.run log.old) bytes (I.left script.new) (T.view log.old) (T.view log.new) text result.0
         (Rose (I.faults script.old) (I.faults script.new)) (T.faults log.old < T.faults log.new) }
+    ensures reopens { IsTrue T.tells → T.held log.old → T.reopens (T.name log.old) (T.view log.new) }
     ensures others { IsTrue T.tells → KeepsOtherNames (T.view log.old) (T.view log.new) (T.name log.old) }
     ensures read { result.0 ≡ 4 → Rose (I.faults script.old) (I.faults script.new) }
     ensures write { result.0 ≡ 5 → Rose (O.faults out.old) (O.faults out.new) }

@@ -3,7 +3,7 @@ ghost use Rattle.std.specs.Prelude.{◌≡◌, ◌<◌, ◌≤◌, ◌+◌, ◌�
 ghost use Rattle.host_types.specs.Limits.{index_limit, last_limit};
 ghost use Rattle.disk_model.specs.View.{LeavesOnly, HasCause};
 ghost use Rattle.segment_files.specs.Spelling.{tick_at};
-ghost use Rattle.segment_set.specs.Fits.{IsFrameFor, IsHeld, last_of};
+ghost use Rattle.segment_set.specs.Fits.{IsEmptyWhereNone, IsFrameFor, IsHeld, last_of};
 ghost use Rattle.log_model.specs.Log.{Given};
 ghost use Rattle.log_model.specs.Report.{outcome};
 ghost use Rattle.copycat_tool.specs.Runs.{KeepsOtherNames, OldOrNew};
@@ -81,6 +81,7 @@ impl<D: Disk> FileLog<D> {
             (shown (D.view self.old.disk) self.old.parts.name self.old.parts.tail self.old.parts.greatest).log
             (with_one self.old.size (shown (D.view self.old.disk) self.old.parts.name self.old.parts.tail self.old.parts.greatest) (Given offer.now)).log) }
         ensures held { OnOk result (IsTrue D.tells → IsHeld (D.view self.old.disk) self.old.parts.name self.old.parts.tail → IsHeld (D.view self.new.disk) self.new.parts.name self.new.parts.tail) }
+        ensures empty { IsTrue D.tells → IsHeld (D.view self.old.disk) self.old.parts.name self.old.parts.tail → IsEmptyWhereNone (D.view self.new.disk) self.old.parts.name }
         ensures others { IsTrue D.tells → KeepsOtherNames (D.view self.old.disk) (D.view self.new.disk) self.old.parts.name }
         ensures name { self.new.parts.name ≡ self.old.parts.name }
         ensures size { self.new.size ≡ self.old.size }
@@ -118,17 +119,21 @@ impl<D: Disk> TickLog for FileLog<D> {
 
     ghost lies = { Lies };
 
+    ghost reopens = { λ name v. IsEmptyWhereNone v name };
+
     ghost run = { λ s. shown (D.view s.disk) s.parts.name s.parts.tail s.parts.greatest };
 
     ghost ready = { λ s. IsTrue D.tells → IsReady (D.view s.disk) s.parts.name s.parts.tail s.parts.greatest s.time };
 
     ghost held = { λ s. IsHeld (D.view s.disk) s.parts.name s.parts.tail };
 
-    ghost use Rattle.copycat_tool.specs.Shown.{is_kept, is_laid_out};
+    ghost use Rattle.copycat_tool.specs.Shown.{is_kept, is_laid_out, reopens};
 
     ghost sound = { λ s t. D.sound s.disk t };
 
     ghost kept = { λ s t ready held. is_kept (D.view s.disk) s.parts.name s.parts.tail s.parts.greatest (ready t).fits held };
+
+    ghost still_reopens = { λ s t ready held. reopens (D.view s.disk) s.parts.name s.parts.tail s.parts.greatest (ready t).fits held };
 
     ghost laid_out = { λ s t ready. is_laid_out (D.view s.disk) s.parts.name s.parts.tail s.parts.greatest (ready t).fits };
 

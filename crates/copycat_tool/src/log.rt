@@ -34,6 +34,9 @@ pub trait TickLog {
     /// Under that name an image has files that lie so.
     ghost lies: { List ℕ → Image → Layout → Type 0 };
 
+    /// Under that name the log can be opened again from this disk, with what a crash may leave of it.
+    ghost reopens: { List ℕ → View → Type 0 };
+
     /// The run that it stands at, if its disk tells.
     ghost run: { Self → Run };
 
@@ -56,6 +59,7 @@ pub trait TickLog {
         ensures any_moment { IsTrue tells → held self.old → LeavesOnly (view self.old) (view self.new)
             (OldOrNew (stands (name self.old)) (run self.old).log (after (size self.old) (run self.old) (answer (run self.old) offer.now ∷ [])).log) }
         ensures held { OnOk result (IsTrue tells → held self.old → held self.new) }
+        ensures reopens { IsTrue tells → held self.old → reopens (name self.old) (view self.new) }
         ensures others { IsTrue tells → KeepsOtherNames (view self.old) (view self.new) (name self.old) }
         ensures name { name self.new ≡ name self.old }
         ensures size { size self.new ≡ size self.old }
@@ -65,6 +69,9 @@ pub trait TickLog {
 
     /// What a crash leaves then stands for all of the log.
     ghost kept: { (s : Self) → IsTrue tells → ready s → held s → IsKept (stands (name s)) (view s) (run s).log };
+
+    /// It can be opened again then.
+    ghost still_reopens: { (s : Self) → IsTrue tells → ready s → held s → reopens (name s) (view s) };
 
     /// Its files lie as the run says, with no others beside them.
     ghost laid_out: { (s : Self) → IsTrue tells → ready s → lies (name s) ((view s).reading) (alone (run s).layout) };

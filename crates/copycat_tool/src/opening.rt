@@ -95,6 +95,7 @@ pub fn open_log<D: Disk>(alloc: Global, disk: &mut D, name: &LogName) -> Result<
 
     ensures any_moment { IsTrue D.tells → (log : List Entry) (least : ℕ) → IsInOrder (D.view disk.old) name.now log least
         → LeavesOnly (D.view disk.old) (D.view disk.new) (StandsForPrefix name.now log least) }
+    ensures empty { IsTrue D.tells → IsEmptyWhereNone (D.view disk.old) name.now → IsEmptyWhereNone (D.view disk.new) name.now }
     ensures others { IsTrue D.tells → KeepsNames (D.view disk.old) (D.view disk.new) name.now }
     ensures cause { HasOpenCause (D.faults disk.old) (D.faults disk.new) result }
 {

@@ -36,6 +36,7 @@ fn run_log<I: Source, D: Disk, O: Sink>(
         × (O.written out.new ≡ Some (before ++ text))
         × RunsInOrder name.now 1024 log least bytes (I.left script.new) (D.view disk) (D.view result.1) text result.0.0
         (Rose (I.faults script.old) (I.faults script.new)) (D.faults disk < D.faults result.1) }
+    ensures empty { IsTrue D.tells → IsEmptyWhereNone (D.view disk) name.now → IsEmptyWhereNone (D.view result.1) name.now }
     ensures damaged { result.0.0 ≡ 7 → IsTrue D.tells → (before : List ℕ) → O.written out.old ≡ Some before
         → TellsDamage name.now (D.view disk) (D.view result.1) before (O.written out.new) }
     ensures damage_told { IsTrue D.tells → (id : FileId) → IsFault (folder name.now (D.view disk).reading) id → (result.0.0 ≡ 7) ⊎ (result.0.0 ≡ 5) ⊎ (result.0.0 ≡ 6) ⊎ (result.0.0 ≡ 8) }
@@ -86,6 +87,9 @@ pub fn run<I: Source, D: Disk, O: Sink>(
         × (O.written out.new ≡ Some (before ++ text))
         × RunsInOrder name 1024 log least bytes (I.left script.new) (D.view disk) (D.view result.1) text result.0.0
         (Rose (I.faults script.old) (I.faults script.new)) (D.faults disk < D.faults result.1) }
+
+    // Where no file of the name is listed at the end, no crash brings one back: so the folder is in order for the next run.
+    ensures empty { IsTrue D.tells → (name : List ℕ) → run_name (map (λ w. w.items) words.now) ≡ Some name → IsEmptyWhereNone (D.view disk) name → IsEmptyWhereNone (D.view result.1) name }
 
     // A folder that isn't right is told as such, and left as it is.
     ensures damaged { result.0.0 ≡ 7 → IsTrue D.tells → (name before : List ℕ) → run_name (map (λ w. w.items) words.now) ≡ Some name → O.written out.old ≡ Some before

@@ -31,6 +31,7 @@ pub fn turn<T: TickLog, O: Sink>(
         × (O.written out.new ≡ Some (before ++ text))
         × ((rest : Run → Report) → Ended (files_of T.stands T.lies (T.name log.old) (T.size log.old)) (T.run log.old)
         (one (T.size log.old) (command line.now) (T.run log.old) number rest) (T.view log.old) (T.view log.new) text ending)) }
+    ensures reopens { IsTrue T.tells → T.held log.old → T.reopens (T.name log.old) (T.view log.new) }
     ensures others { IsTrue T.tells → KeepsOtherNames (T.view log.old) (T.view log.new) (T.name log.old) }
     ensures name { T.name log.new ≡ T.name log.old }
     ensures size { T.size log.new ≡ T.size log.old }

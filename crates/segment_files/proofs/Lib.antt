@@ -12,3 +12,4 @@ pub mod Scanning
 pub mod Wholes
 pub mod FrameLemmas
 pub mod Examples
+pub mod Unlisted

@@ -55,6 +55,8 @@ pub fn make_tail<D: Disk>(
     requires fresh { IsTrue D.tells → (D.view disk.old).reading (place name.now id) ≡ None }
     ensures whole { OnOk result (IsTrue D.tells → Becomes (D.view disk.old) (D.view disk.new) (place name.now id) (1 ∷ behind.now)) }
     ensures any_moment { IsTrue D.tells → LeavesAt (D.view disk.old) (D.view disk.new) (OrWhole (D.view disk.old) (place name.now id) (1 ∷ behind.now)) }
+    // Where it isn't listed then, no crash has left it whole.
+    ensures unlisted { IsTrue D.tells → (D.view disk.new).reading (place name.now id) ≡ None → LeavesAt (D.view disk.old) (D.view disk.new) (OrClosed (D.view disk.old) (place name.now id)) }
     ensures others { IsTrue D.tells → KeepsOthers (D.view disk.old) (D.view disk.new) (place name.now id) }
     ensures cause { HasCause (D.faults disk.old) (D.faults disk.new) result }
 {

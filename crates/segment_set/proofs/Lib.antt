@@ -16,3 +16,4 @@ pub mod Pushing
 pub mod Gaining
 pub mod Advancing
 pub mod Starting
+pub mod Emptied

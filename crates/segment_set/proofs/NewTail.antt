@@ -4,8 +4,8 @@ use Rattle.std.proofs.lemmas.List.{get_or_at}
 use Rattle.disk_model.specs.declared.file_id.FileId.{FileId}
 use Rattle.disk_model.specs.Image.{Place, Image, place}
 use Rattle.disk_model.specs.View.{View, MayHold, MayLeave, IsSound, LeavesAt, LeavesOnly}
-use Rattle.disk_model.proofs.Moments.{weaker}
-use Rattle.segment_files.specs.Files.{OrWhole, Becomes, IsAtGate, then_shut}
+use Rattle.disk_model.proofs.Moments.{has_now, weaker}
+use Rattle.segment_files.specs.Files.{OrClosed, OrWhole, Becomes, IsAtGate, then_shut}
 use Rattle.segment_files.specs.Parse.{Part, Closed, Whole, parse}
 use Rattle.segment_files.specs.Folder.{found, folder, IsChoice, EachHas}
 use Rattle.segment_set.specs.Growth.{HasNoneOr}
@@ -51,6 +51,23 @@ module _ (v : View) (name : List ℕ) (id : FileId) (behind : List ℕ) (new : P
 
   pub tailing : (e : View) → EachHas v name [] → LeavesAt v e (OrWhole v (place name id) (1 ∷ behind)) → LeavesOnly v e (HasNoneOr name new)
   tailing e each only = weaker v e (λ c. (q : Place) → OrWhole v (place name id) (1 ∷ behind) q (c q)) (HasNoneOr name new) only (stands each)
+
+  -- a crash left nothing but closed files
+  pub still_none : (e : View) → IsSound e → EachHas v name [] → LeavesAt v e (OrClosed v (place name id)) → EachHas e name []
+  still_none e sound_e each only c may = at (left (place name id))
+    where
+      left : (q : Place) → OrClosed v (place name id) q (c q)
+      left = has_now v e (λ d. (q : Place) → OrClosed v (place name id) q (d q)) sound_e only c may
+
+      others : (q : Place) → q ≢ place name id → MayHold v q (c q)
+      others q ne = ⊎_elim (λ was. was) (λ here. absurd (ne here.1)) (left q)
+
+      all : MayHold v (place name id) (c (place name id)) → MayLeave v c
+      all held q = ⊎_elim (λ was. was) (λ here. subst (λ (s : Place). MayHold v s (c s)) (sym here.1) held) (left q)
+
+      at : OrClosed v (place name id) (place name id) (c (place name id)) → IsChoice (folder name c) []
+      at (inl held) = each c (all held)
+      at (inr shut) = still_shut each c others (ap (found id) shut.2 ∙ parse_shut id shut.0 shut.3)
 
   pub tailed : (e : View) → EachHas v name [] → Becomes v e (place name id) (1 ∷ behind) → EachHas e name (new ∷ [])
   tailed e each becomes c may = gains each c (λ q ne. kept_at v e (place name id) becomes.others q (c q) ne (may q)) (becomes.settled (c (place name id)) (may (place name id)) ∙ becomes.reads)

@@ -10,7 +10,7 @@ ghost use Rattle.segment_files.specs.Contents.{appended_descriptor, descriptor_b
 ghost use Rattle.segment_files.specs.Parse.{Part, Whole};
 ghost use Rattle.segment_files.specs.Folder.{EachHas, folder};
 ghost use Rattle.segment_set.specs.Growth.{HasNoneOr, HasOrGains, new_tail};
-ghost use Rattle.segment_set.specs.Fits.{Fits, IsFirstTail, IsFrameFor, IsHeld, IsMade, IsTailAt, KeepsNames, StandsOrGains, TailFits, first_id, gained, greatest_after, last_of, log_of, parts_in, with_entry};
+ghost use Rattle.segment_set.specs.Fits.{Fits, IsEmptyWhereNone, IsFirstTail, IsFrameFor, IsHeld, IsMade, IsTailAt, KeepsNames, StandsOrGains, TailFits, first_id, gained, greatest_after, last_of, log_of, parts_in, with_entry};
 
 use crate::parts::{GENERATION_LIMIT, Parts, Tail};
 use disk_model::{Disk, DiskFault, FileId};
@@ -37,6 +37,7 @@ fn make_file<D: Disk>(disk: &mut D, name: &LogName, id: FileId, size: u32) -> Re
     ensures made { OnOk result (IsTrue D.tells → IsMade (D.view disk.new) name.now id size) }
     ensures any_moment { IsTrue D.tells → EachHas (D.view disk.old) name.now [] → LeavesOnly (D.view disk.old) (D.view disk.new) (HasNoneOr name.now (new_tail id size)) }
     ensures held { OnOk result (IsTrue D.tells → EachHas (D.view disk.old) name.now [] → EachHas (D.view disk.new) name.now (new_tail id size ∷ [])) }
+    ensures unlisted { IsTrue D.tells → EachHas (D.view disk.old) name.now [] → (D.view disk.new).reading (place name.now id) ≡ None → EachHas (D.view disk.new) name.now [] }
     ensures others { IsTrue D.tells → KeepsOthers (D.view disk.old) (D.view disk.new) (place name.now id) }
     ensures cause { HasCause (D.faults disk.old) (D.faults disk.new) result }
 {
@@ -119,6 +120,7 @@ impl Parts {
         ensures made { IfOk result (λ tail. IsTrue D.tells → IsTailAt (D.view disk.new) self.old.name tail (new_tail tail.id size)) }
         ensures any_moment { IsTrue D.tells → EachHas (D.view disk.old) self.old.name [] → LeavesOnly (D.view disk.old) (D.view disk.new) (HasNoneOr self.old.name (new_tail (first_id (self.old.greatest + 1)) size)) }
         ensures held { IfOk result (λ tail. IsTrue D.tells → EachHas (D.view disk.old) self.old.name [] → EachHas (D.view disk.new) self.old.name (new_tail tail.id size ∷ [])) }
+        ensures unlisted { IsTrue D.tells → EachHas (D.view disk.old) self.old.name [] → (D.view disk.new).reading (place self.old.name (first_id (self.old.greatest + 1))) ≡ None → EachHas (D.view disk.new) self.old.name [] }
         ensures others { IsTrue D.tells → KeepsOthers (D.view disk.old) (D.view disk.new) (place self.old.name (first_id (self.old.greatest + 1))) }
         ensures cause { HasCause (D.faults disk.old) (D.faults disk.new) result }
     {
@@ -160,6 +162,7 @@ impl Parts {
         ensures greatest { OnOk result (self.new.greatest ≡ greatest_after self.old.tail self.old.greatest) }
         ensures any_moment { IsTrue D.tells → IsHeld (D.view disk.old) self.old.name self.old.tail → (entry : Entry) → IsFrameFor (last_of self.old.tail) frame.now entry
             → LeavesOnly (D.view disk.old) (D.view disk.new) (StandsOrGains self.old.name (log_of (parts_in (D.view disk.old).reading self.old.name self.old.tail)) entry) }
+        ensures empty { IsTrue D.tells → IsHeld (D.view disk.old) self.old.name self.old.tail → IsEmptyWhereNone (D.view disk.new) self.old.name }
         ensures name { self.new.name ≡ self.old.name }
         ensures others { IsTrue D.tells → KeepsNames (D.view disk.old) (D.view disk.new) self.old.name }
         ensures cause { HasCause (D.faults disk.old) (D.faults disk.new) result }
@@ -195,6 +198,7 @@ impl Parts {
         ensures greatest { OnOk result (self.new.greatest ≡ greatest_after self.old.tail self.old.greatest) }
         ensures any_moment { IsTrue D.tells → IsHeld (D.view disk.old) self.old.name self.old.tail → (entry : Entry) → IsFrameFor (last_of self.old.tail) frame.now entry
             → LeavesOnly (D.view disk.old) (D.view disk.new) (StandsOrGains self.old.name (log_of (parts_in (D.view disk.old).reading self.old.name self.old.tail)) entry) }
+        ensures empty { IsTrue D.tells → IsHeld (D.view disk.old) self.old.name self.old.tail → IsEmptyWhereNone (D.view disk.new) self.old.name }
         ensures name { self.new.name ≡ self.old.name }
         ensures others { IsTrue D.tells → KeepsNames (D.view disk.old) (D.view disk.new) self.old.name }
         ensures cause { HasCause (D.faults disk.old) (D.faults disk.new) result }
@@ -235,6 +239,7 @@ impl Parts {
         ensures greatest { OnOk result (self.new.greatest ≡ greatest_after self.old.tail self.old.greatest) }
         ensures any_moment { IsTrue D.tells → IsHeld (D.view disk.old) self.old.name self.old.tail → (entry : Entry) → IsFrameFor (last_of self.old.tail) frame.now entry
             → LeavesOnly (D.view disk.old) (D.view disk.new) (StandsOrGains self.old.name (log_of (parts_in (D.view disk.old).reading self.old.name self.old.tail)) entry) }
+        ensures empty { IsTrue D.tells → IsHeld (D.view disk.old) self.old.name self.old.tail → IsEmptyWhereNone (D.view disk.new) self.old.name }
         ensures name { self.new.name ≡ self.old.name }
         ensures others { IsTrue D.tells → KeepsNames (D.view disk.old) (D.view disk.new) self.old.name }
         ensures cause { HasCause (D.faults disk.old) (D.faults disk.new) result }

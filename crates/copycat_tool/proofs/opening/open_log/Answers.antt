@@ -2,6 +2,7 @@ use Rattle.std.proofs.Common.{ℕ, ◌≡◌, Err, ap, ◌∙◌}
 use Rattle.segment_files.specs.Folder.{StandsForPrefix}
 use Rattle.segment_set.specs.declared.opening.OpenError.TheVariants.{Damaged as Is_damaged}
 use Rattle.copycat_tool.proofs.OpenedLemmas.{ready_stays, held_stays, left_then}
+use Rattle.segment_set.proofs.Emptied.{empty_stays}
 use Rattle.copycat_tool.proofs.opening.open_log.Goals as goal
 
 pub returns-in-Err-clause-damaged : goal.returns-in-Err-clause-damaged
@@ -24,3 +25,11 @@ returns-in-Ok-time_of-clause-any_moment g c = λ t log least order.
 pub returns-in-Err-time_of-clause-any_moment : goal.returns-in-Err-time_of-clause-any_moment
 returns-in-Err-time_of-clause-any_moment g c = λ t log least order.
     left_then (g.D.Disk.view c.args.disk.now) (g.D.Disk.view c.load.new.disk) (g.D.Disk.view c.time_of.new.disk) (StandsForPrefix c.args.name.now log least) (g.met.D.Disk.sound c.load.new.disk t) (c.load.ensures.any_moment t log least order) (c.time_of.ensures.any_moment t)
+
+pub returns-in-Ok-time_of-clause-empty : goal.returns-in-Ok-time_of-clause-empty
+returns-in-Ok-time_of-clause-empty g c = λ t empty.
+    empty_stays (g.D.Disk.view c.load.new.disk) (g.D.Disk.view c.time_of.new.disk) c.args.name.now (g.met.D.Disk.sound c.time_of.new.disk t) (c.time_of.ensures.stays t).reading (c.time_of.ensures.any_moment t) (c.load.ensures.empty t empty)
+
+pub returns-in-Err-time_of-clause-empty : goal.returns-in-Err-time_of-clause-empty
+returns-in-Err-time_of-clause-empty g c = λ t empty.
+    empty_stays (g.D.Disk.view c.load.new.disk) (g.D.Disk.view c.time_of.new.disk) c.args.name.now (g.met.D.Disk.sound c.time_of.new.disk t) (c.time_of.ensures.stays t).reading (c.time_of.ensures.any_moment t) (c.load.ensures.empty t empty)

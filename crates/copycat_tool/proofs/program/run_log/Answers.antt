@@ -2,7 +2,7 @@ use Rattle.std.proofs.Common.{◌≡◌, ◌<◌, ℕ, List, inl, inr, ⊎_elim,
 use Rattle.script_io.specs.Streams.{Rose}
 use Rattle.segment_set.specs.declared.opening.OpenError.{OpenError}
 use Rattle.segment_set.specs.declared.opening.OpenError.TheVariants.{Disk, Damaged, NoMemory}
-use Rattle.segment_set.specs.Fits.{IsHeld}
+use Rattle.segment_set.specs.Fits.{IsEmptyWhereNone, IsHeld}
 use Rattle.log_model.specs.Log.{stored}
 use Rattle.copycat_tool.specs.FileLogs.{IsReady, Lies, StandsFor, shown}
 use Rattle.copycat_tool.specs.Runs.{HasPrefix, Ran, files_of}
@@ -73,3 +73,8 @@ returns-in-Err-clause-damaged g c = λ seven t before was.
       same = (fault.1 t).1;
       written_is = damage_written c.args.name.now c.in-Err.error before _ c.close_unopened.result.0 (c.close_unopened.ensures.closes before was) seven damage.0 damage.1 damage.2 damage.3 fault.0;
     }
+
+pub returns-in-Ok-clause-empty : goal.returns-in-Ok-clause-empty
+returns-in-Ok-clause-empty g c = λ t empty.
+    let held = subst (λ (n : List ℕ). IsHeld (g.D.Disk.view c.open_log.new.disk) n c.in-Ok.start.parts.tail) (sym c.in-Ok.ensures.name) (c.in-Ok.ensures.held t empty) in
+    subst (λ (n : List ℕ). IsEmptyWhereNone (g.D.Disk.view c.run_script-status.new.log.disk) n) c.in-Ok.ensures.name (c.run_script-status.ensures.reopens t held)

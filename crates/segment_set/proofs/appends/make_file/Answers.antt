@@ -6,7 +6,7 @@ use Rattle.segment_files.specs.Parse.{Whole, parse}
 use Rattle.segment_files.specs.Contents.{appended_descriptor, descriptor_bytes}
 use Rattle.segment_files.proofs.FrameLemmas.{tail_read}
 use Rattle.segment_set.specs.Growth.{new_tail}
-use Rattle.segment_set.proofs.NewTail.{reads_new, tailing, tailed, tail_gate}
+use Rattle.segment_set.proofs.NewTail.{reads_new, tailing, tailed, still_none, tail_gate}
 use Rattle.segment_set.proofs.appends.make_file.Goals as goal
 
 pub returns-clause-made : goal.returns-clause-made
@@ -45,3 +45,12 @@ returns-clause-held g c =
     on_ok_weaker c.make_tail.result
     (λ made t each. tailed v c.args.name.now id behind (new_tail id c.args.size) (g.met.D.Disk.sound c.args.disk.now t) whole e each (made t))
     c.make_tail.ensures.whole
+
+pub returns-clause-unlisted : goal.returns-clause-unlisted
+returns-clause-unlisted g c = λ t each none.
+    let v = g.D.Disk.view c.args.disk.now in
+    let e = g.D.Disk.view c.make_tail.new.disk in
+    let id = c.args.id in
+    let behind = c.behind_gate-behind.result in
+    let whole : parse id (1 ∷ behind) ≡ Whole (new_tail id c.args.size) = ap (parse id) c.behind_gate-behind.ensures ∙ tail_read id c.args.size c.requires.id c.requires.least c.requires.most [] in
+    still_none v c.args.name.now id behind (new_tail id c.args.size) (g.met.D.Disk.sound c.args.disk.now t) whole e (g.met.D.Disk.sound c.make_tail.new.disk t) each (c.make_tail.ensures.unlisted t none)

@@ -2,6 +2,7 @@ use Rattle.std.proofs.Common.{ℕ, List, sym, subst}
 use Rattle.segment_files.specs.Spelling.{tick_at}
 use Rattle.segment_set.specs.Fits.{IsFrameFor, IsHeld, last_of}
 use Rattle.copycat_tool.proofs.StoringLemmas.{shows_more, stays_ready, leaves_more, leaves_old}
+use Rattle.copycat_tool.specs.Shown.{reopens}
 use Rattle.copycat_tool.proofs.file_log.FileLog.store.Goals as goal
 
 pub returns-in-Err-clause-any_moment : goal.returns-in-Err-clause-any_moment
@@ -34,3 +35,6 @@ returns-in-Err-append-clause-any_moment g c = λ t held.
 pub returns-in-Ok-append-clause-held : goal.returns-in-Ok-append-clause-held
 returns-in-Ok-append-clause-held g c = λ t held.
     subst (λ (n : List ℕ). IsHeld (g.D.Disk.view c.append.new.disk) n c.append.new.self.tail) (sym c.append.ensures.name) (c.in-Ok-append.ensures.held t held)
+
+pub returns-in-Err-clause-empty : goal.returns-in-Err-clause-empty
+returns-in-Err-clause-empty g c = λ t held. reopens (g.D.Disk.view c.args.self.now.disk) c.args.self.now.parts.name c.args.self.now.parts.tail c.args.self.now.parts.greatest (c.requires.ready t).fits held

@@ -6,6 +6,8 @@ use Rattle.segment_files.specs.Folder.{EachHas}
 use Rattle.segment_set.specs.Growth.{HasOrGains, new_tail}
 use Rattle.segment_set.specs.Fits.{IsFrameFor, IsTailAt, with_entry}
 use Rattle.segment_set.proofs.Starting.{fits_when_at, at_name, held_none, left_making, frame_first, starts_parts, starts_fits, starts_held, left_starting}
+use Rattle.segment_set.specs.Fits.{first_id}
+use Rattle.segment_set.proofs.Emptied.{not_listed, tail_listed}
 use Rattle.segment_set.proofs.parts.Parts.append_first.Goals as goal
 
 pub returns-in-Err-clause-any_moment : goal.returns-in-Err-clause-any_moment
@@ -106,3 +108,41 @@ returns-in-Err-push_frame-clause-any_moment g c = λ t held entry f.
     (c.push_frame.ensures.any_moment t (new_tail tail.id size) entry (at_name m name c.begin.new.self.name tail (new_tail tail.id size) c.begin.ensures.name (c.in-Ok.ensures.made t)).whole
     (frame_first v name old greatest c.requires.none tail size first c.args.frame.now entry f)
     (subst (λ (n : List ℕ). EachHas m n (new_tail tail.id size ∷ [])) (sym c.begin.ensures.name) (c.in-Ok.ensures.held t none))))
+
+pub returns-in-Err-clause-empty : goal.returns-in-Err-clause-empty
+returns-in-Err-clause-empty g c = λ t held none.
+    let v = g.D.Disk.view c.args.disk.now in
+    c.begin.ensures.unlisted t (held_none v c.args.self.now.name c.args.self.now.tail c.args.self.now.greatest c.requires.none held)
+    (not_listed (g.D.Disk.view c.begin.new.disk) c.args.self.now.name (first_id (c.args.self.now.greatest + 1)) none)
+
+pub returns-in-Ok-push_frame-clause-empty : goal.returns-in-Ok-push_frame-clause-empty
+returns-in-Ok-push_frame-clause-empty g c = λ t held none.
+    let v = g.D.Disk.view c.args.disk.now in
+    let m = g.D.Disk.view c.begin.new.disk in
+    let w = g.D.Disk.view c.push_frame.new.disk in
+    let name = c.args.self.now.name in
+    let tail = c.in-Ok.tail in
+    let size = c.args.size in
+    let entry = c.requires.frame.0 in
+    let f = subst (λ (k : ℕ). IsFrameFor k c.args.frame.now entry) (sym c.in-Ok.ensures.tail.last) c.requires.frame.1 in
+    absurd (tail_listed m w name (new_tail tail.id size) (((new_tail tail.id size).last + 1, entry) ∷ []) 22 (g.met.D.Disk.sound c.push_frame.new.disk t)
+    (subst (λ (n : List ℕ). LeavesOnly m w (HasOrGains n (new_tail tail.id size) (((new_tail tail.id size).last + 1, entry) ∷ []) 22)) c.begin.ensures.name
+    (c.push_frame.ensures.any_moment t (new_tail tail.id size) entry (at_name m name c.begin.new.self.name tail (new_tail tail.id size) c.begin.ensures.name (c.in-Ok.ensures.made t)).whole f
+    (subst (λ (n : List ℕ). EachHas m n (new_tail tail.id size ∷ [])) (sym c.begin.ensures.name)
+    (c.in-Ok.ensures.held t (held_none v name c.args.self.now.tail c.args.self.now.greatest c.requires.none held))))) none)
+
+pub returns-in-Err-push_frame-clause-empty : goal.returns-in-Err-push_frame-clause-empty
+returns-in-Err-push_frame-clause-empty g c = λ t held none.
+    let v = g.D.Disk.view c.args.disk.now in
+    let m = g.D.Disk.view c.begin.new.disk in
+    let w = g.D.Disk.view c.push_frame.new.disk in
+    let name = c.args.self.now.name in
+    let tail = c.in-Ok.tail in
+    let size = c.args.size in
+    let entry = c.requires.frame.0 in
+    let f = subst (λ (k : ℕ). IsFrameFor k c.args.frame.now entry) (sym c.in-Ok.ensures.tail.last) c.requires.frame.1 in
+    absurd (tail_listed m w name (new_tail tail.id size) (((new_tail tail.id size).last + 1, entry) ∷ []) 22 (g.met.D.Disk.sound c.push_frame.new.disk t)
+    (subst (λ (n : List ℕ). LeavesOnly m w (HasOrGains n (new_tail tail.id size) (((new_tail tail.id size).last + 1, entry) ∷ []) 22)) c.begin.ensures.name
+    (c.push_frame.ensures.any_moment t (new_tail tail.id size) entry (at_name m name c.begin.new.self.name tail (new_tail tail.id size) c.begin.ensures.name (c.in-Ok.ensures.made t)).whole f
+    (subst (λ (n : List ℕ). EachHas m n (new_tail tail.id size ∷ [])) (sym c.begin.ensures.name)
+    (c.in-Ok.ensures.held t (held_none v name c.args.self.now.tail c.args.self.now.greatest c.requires.none held))))) none)

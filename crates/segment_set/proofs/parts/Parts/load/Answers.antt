@@ -10,6 +10,7 @@ use Rattle.segment_set.proofs.Picking.{in_order, like_at_first, like_still, like
 use Rattle.segment_set.proofs.Loading.{closed_listed}
 use Rattle.segment_set.proofs.Loaded.{opens_by, loaded_choice, loaded_fits, loaded_held, loaded_greatest, unbased}
 use Rattle.segment_set.proofs.Turns.{closed_then, found_id, listed_again}
+use Rattle.segment_set.proofs.Emptied.{empty_stays, emptied}
 use Rattle.segment_set.proofs.parts.Parts.load.Goals as goal
 
 pub returns-in-Err-clause-any_moment : goal.returns-in-Err-clause-any_moment
@@ -162,3 +163,43 @@ returns-clause-any_moment g c = λ t log least order.
     (like_still v0 name v1 v2 (g.met.D.Disk.sound c.settle_all.new.disk t) (like_at_first v0 name v1 (c.settle_all.ensures.any_moment t)) (c.read_all.ensures.any_moment t))
     (closed_then (g.D.Disk.view c.settle_all.new.disk) v2 name c.deref.result.now found.closed.items (opened_id found.opened) (c.read_all.ensures.reading t) (c.in-Ok-read_all.ensures.surveyed t))
     (subst (λ (l : List FileId). LeavesAt v2 v3 (OrGone v2 name l)) c.deref-2.ensures.value (c.remove_all.ensures.any_moment t)))
+
+pub returns-in-Err-clause-empty : goal.returns-in-Err-clause-empty
+returns-in-Err-clause-empty g c = λ t empty.
+    empty_stays (g.D.Disk.view c.args.disk.now) (g.D.Disk.view c.settle_all.new.disk) c.args.name.now (g.met.D.Disk.sound c.settle_all.new.disk t) (c.settle_all.ensures.reading t) (c.settle_all.ensures.any_moment t) empty
+
+pub returns-in-Err-read_all-clause-empty : goal.returns-in-Err-read_all-clause-empty
+returns-in-Err-read_all-clause-empty g c = λ t empty.
+    let v1 = g.D.Disk.view c.settle_all.new.disk in
+    empty_stays v1 (g.D.Disk.view c.read_all.new.disk) c.args.name.now (g.met.D.Disk.sound c.read_all.new.disk t) (c.read_all.ensures.reading t) (c.read_all.ensures.any_moment t)
+    (empty_stays (g.D.Disk.view c.args.disk.now) v1 c.args.name.now (g.met.D.Disk.sound c.settle_all.new.disk t) (c.settle_all.ensures.reading t) (c.settle_all.ensures.any_moment t) empty)
+
+pub returns-in-Err-tail_of-clause-empty : goal.returns-in-Err-tail_of-clause-empty
+returns-in-Err-tail_of-clause-empty g c = λ t empty.
+    let v1 = g.D.Disk.view c.settle_all.new.disk in
+    empty_stays v1 (g.D.Disk.view c.read_all.new.disk) c.args.name.now (g.met.D.Disk.sound c.read_all.new.disk t) (c.read_all.ensures.reading t) (c.read_all.ensures.any_moment t)
+    (empty_stays (g.D.Disk.view c.args.disk.now) v1 c.args.name.now (g.met.D.Disk.sound c.settle_all.new.disk t) (c.settle_all.ensures.reading t) (c.settle_all.ensures.any_moment t) empty)
+
+pub returns-in-Ok-remove_all-clause-empty : goal.returns-in-Ok-remove_all-clause-empty
+returns-in-Ok-remove_all-clause-empty g c = λ t empty.
+    let v0 = g.D.Disk.view c.args.disk.now in
+    let v1 = g.D.Disk.view c.settle_all.new.disk in
+    let v2 = g.D.Disk.view c.read_all.new.disk in
+    let v3 = g.D.Disk.view c.remove_all.new.disk in
+    let found = c.in-Ok-read_all.found in
+    emptied v0 v1 v2 v3 c.args.name.now c.in-Ok.ids.items c.deref.result.now found.closed.items c.deref-2.result.now (opened_id found.opened) c.deref.ensures.value c.deref-2.ensures.value
+    (c.in-Ok.ensures.lists t) (c.settle_all.ensures.reading t) (c.in-Ok.ensures.settled t) (c.in-Ok.ensures.names t) (c.settle_all.ensures.any_moment t) (c.read_all.ensures.reading t) (c.read_all.ensures.any_moment t)
+    (c.in-Ok-read_all.ensures.surveyed t) (c.remove_all.ensures.any_moment t) (c.remove_all.ensures.others t)
+    (g.met.D.Disk.sound c.settle_all.new.disk t) (g.met.D.Disk.sound c.read_all.new.disk t) (g.met.D.Disk.sound c.remove_all.new.disk t) empty
+
+pub returns-clause-empty : goal.returns-clause-empty
+returns-clause-empty g c = λ t empty.
+    let v0 = g.D.Disk.view c.args.disk.now in
+    let v1 = g.D.Disk.view c.settle_all.new.disk in
+    let v2 = g.D.Disk.view c.read_all.new.disk in
+    let v3 = g.D.Disk.view c.remove_all.new.disk in
+    let found = c.in-Ok-read_all.found in
+    emptied v0 v1 v2 v3 c.args.name.now c.in-Ok.ids.items c.deref.result.now found.closed.items c.deref-2.result.now (opened_id found.opened) c.deref.ensures.value c.deref-2.ensures.value
+    (c.in-Ok.ensures.lists t) (c.settle_all.ensures.reading t) (c.in-Ok.ensures.settled t) (c.in-Ok.ensures.names t) (c.settle_all.ensures.any_moment t) (c.read_all.ensures.reading t) (c.read_all.ensures.any_moment t)
+    (c.in-Ok-read_all.ensures.surveyed t) (c.remove_all.ensures.any_moment t) (c.remove_all.ensures.others t)
+    (g.met.D.Disk.sound c.settle_all.new.disk t) (g.met.D.Disk.sound c.read_all.new.disk t) (g.met.D.Disk.sound c.remove_all.new.disk t) empty
