@@ -1,5 +1,5 @@
 -- How an offer is answered by the log that the files show, and what the log is then.
-use Rattle.std.proofs.Common.{◌≡◌, ℕ, ◌+◌, ◌-◌, ◌≤◌, ◌<◌, nat_lt, nat_le, Bool, true, false, ◌&&◌, List, [], ◌∷◌, ◌++◌, length, map, Option, Some, None, refl, sym, ap, subst, ◌∙◌, arith, if◌then◌else◌}
+use Rattle.std.proofs.Common.{◌≡◌, ℕ, ◌+◌, ◌-◌, ◌≤◌, ◌<◌, nat_lt, nat_le, Bool, true, false, ◌&&◌, [], ◌∷◌, ◌++◌, map, Option, Some, None, sym, ap, ◌∙◌, arith, if◌then◌else◌}
 use Rattle.std.proofs.lemmas.List.{map-append, append-nil}
 use Rattle.std.proofs.lemmas.Bool.Decides.{nat_tests}
 use Rattle.host_types.specs.Limits.{last_limit, index_limit}
@@ -9,15 +9,14 @@ use Rattle.host_types.specs.declared.entry.Refusal.{Refusal}
 use Rattle.host_types.specs.declared.entry.Refusal.TheVariants.{Time, LogEnd, GenEnd}
 use Rattle.disk_model.specs.declared.file_id.FileId.{FileId}
 use Rattle.segment_files.specs.Parse.{Numbered, Part}
-use Rattle.segment_files.specs.Folder.{entries_of}
 use Rattle.segment_set.specs.Growth.{grown, new_tail}
-use Rattle.segment_set.specs.Fits.{bare, log_of}
+use Rattle.segment_set.specs.Fits.{bare}
 use Rattle.log_model.specs.declared.Outcome.{Outcome}
 use Rattle.log_model.specs.declared.Outcome.TheVariants.{Stored, Refused}
-use Rattle.log_model.specs.Log.{Item, Given, State, admits, folded}
-use Rattle.log_model.specs.Layout.{PartLayout, Layout, needs_file, longer, with_entry, with_items}
-use Rattle.log_model.specs.Report.{Run, Answer, outcome, outcome_of, answer, items, after, with_log, stored_item}
-use Rattle.copycat_tool.specs.FileLogs.{item_of, part_layout, run_of, with_one}
+use Rattle.log_model.specs.Log.{Given, State, folded}
+use Rattle.log_model.specs.Layout.{needs_file}
+use Rattle.log_model.specs.Report.{Run, outcome, outcome_of, answer, items, after, with_log, stored_item}
+use Rattle.copycat_tool.specs.FileLogs.{item_of, run_of, with_one}
 
 below : (a b : ℕ) → a < b → nat_lt a b ≡ true
 below a b lt = grind (arith, nat_tests)

@@ -1,22 +1,22 @@
 -- Reading a file changes nothing of what is known of a disk.
-use Rattle.std.proofs.Common.{◌≡◌, ◌⊎◌, inl, inr, ℕ, ◌+◌, ◌≤◌, ◌<◌, Bool, true, false, if◌then◌else◌, List, [], ◌∷◌, ◌++◌, map, fold, take, drop, length, get_or, Option, Some, None, refl, sym, ap, subst, ◌∙◌, arith}
+use Rattle.std.proofs.Common.{◌≡◌, inl, inr, ℕ, ◌+◌, ◌<◌, true, List, [], ◌∷◌, ◌++◌, map, fold, take, length, get_or, Option, Some, None, refl, sym, ap, subst, ◌∙◌}
 use Rattle.std.proofs.lemmas.List.{append-nil, take_more}
 use Rattle.std.proofs.lemmas.Bool.{cases_Bool}
 use Rattle.host_types.specs.declared.entry.Entry.{Entry}
 use Rattle.disk_model.specs.declared.file_id.FileId.{FileId}
 use Rattle.disk_model.specs.Image.{Image, Place, place}
-use Rattle.disk_model.specs.View.{View, MayHold, MayLeave, IsListed, IsSound, LeavesAt, LeavesOnly, Reads}
+use Rattle.disk_model.specs.View.{View, MayHold, IsListed, IsSound, LeavesAt, LeavesOnly}
 use Rattle.disk_model.specs.Calls.{Stays}
 use Rattle.disk_model.proofs.Moments.{goes_further, has_now, weaker}
 use Rattle.disk_model.proofs.Places.{stays_at}
 use Rattle.segment_files.specs.Files.{IsAtGate, is_open}
-use Rattle.segment_files.specs.Parse.{Numbered, Part, Found, Closed, Whole, Damaged, parse, parse_open}
-use Rattle.segment_files.specs.Folder.{folder, found, IsChoice}
+use Rattle.segment_files.specs.Parse.{Numbered, Part, Whole, parse}
+use Rattle.segment_files.specs.Folder.{folder, IsChoice}
 use Rattle.segment_set.specs.declared.parts.Tail.{Tail}
-use Rattle.segment_set.specs.Fits.{Fits, IsHeld, TailFits, TailIs, bare, log_of, parts_in}
+use Rattle.segment_set.specs.Fits.{Fits, IsHeld, TailIs, bare, log_of, parts_in}
 use Rattle.segment_set.proofs.Appended.{parse_shut}
 use Rattle.segment_set.proofs.Gaining.{list_at}
-use Rattle.log_model.specs.Log.{Item, State, start, step, folded}
+use Rattle.log_model.specs.Log.{State, start, step, folded}
 use Rattle.copycat_tool.specs.FileLogs.{IsReady, item_of, shown, time_behind}
 
 -- THE TIME

@@ -1,31 +1,29 @@
 -- From the opening of a log to the end of the run over it.
-use Rattle.std.proofs.Common.{◌≡◌, ◌≢◌, ◌⊎◌, inl, inr, ⊎_elim, ℕ, ◌+◌, ◌≤◌, ◌<◌, List, [], ◌∷◌, ◌++◌, length, take, map, Option, Some, None, refl, sym, ap, subst, ◌∙◌, arith, Contains}
+use Rattle.std.proofs.Common.{◌≡◌, ◌⊎◌, inl, inr, ℕ, ◌≤◌, List, [], ◌∷◌, ◌++◌, length, take, map, Option, Some, refl, sym, ap, subst, ◌∙◌, arith, Contains}
 use Rattle.std.proofs.lemmas.List.{length-map}
 use Rattle.std.specs.List.{take-map}
 use Rattle.host_types.specs.declared.entry.Entry.{Entry}
 use Rattle.disk_model.specs.declared.file_id.FileId.{FileId}
-use Rattle.disk_model.specs.Image.{Image, IsBelow, place}
-use Rattle.disk_model.specs.View.{View, MayHold, MayLeave, IsSound, LeavesOnly}
+use Rattle.disk_model.specs.Image.{Image, IsBelow}
+use Rattle.disk_model.specs.View.{View, IsSound, LeavesOnly}
 use Rattle.disk_model.proofs.Moments.{goes_further, has_now, weaker}
 use Rattle.disk_model.proofs.Places.{own}
 use Rattle.segment_files.specs.Parse.{Part, Found, Closed, Whole, Damaged}
-use Rattle.segment_files.specs.Folder.{Folder, folder, AreOf, HasOpen, IsChoice, IsDamaged, IsFault, IsFirstDamaged, IsSecond, IsUnbased, Stands, StandsForPrefix}
+use Rattle.segment_files.specs.Folder.{folder, AreOf, HasOpen, IsChoice, IsDamaged, IsFault, Stands, StandsForPrefix}
 use Rattle.segment_set.specs.declared.parts.Tail.{Tail}
-use Rattle.segment_set.specs.Fits.{Fits, IsInOrder, bare, log_of, parts_in}
+use Rattle.segment_set.specs.Fits.{Fits, IsInOrder, log_of, parts_in}
 use Rattle.segment_set.specs.declared.opening.OpenError.{OpenError}
 use Rattle.segment_set.specs.declared.opening.OpenError.TheVariants.{Damaged as Damage, NoMemory}
-use Rattle.segment_set.specs.Opening.{IsGreatestListed, id_from}
+use Rattle.segment_set.specs.Opening.{IsGreatestListed}
 use Rattle.segment_set.proofs.Images.{nothing, only_one}
 use Rattle.segment_set.proofs.Picking.{below_not}
 use Rattle.segment_set.proofs.Gaining.{whole_plain}
 use Rattle.log_model.specs.Log.{Item, stored, entry_of}
 use Rattle.log_model.specs.Report.{Run, items}
-use Rattle.log_model.specs.declared.Ending.{Ending}
-use Rattle.log_model.specs.declared.Ending.TheVariants.{DiskFault}
-use Rattle.copycat_tool.specs.FileLogs.{IsReady, Lies, StandsFor, item_of, shown}
+use Rattle.copycat_tool.specs.FileLogs.{Lies, StandsFor, item_of, shown}
 use Rattle.copycat_tool.specs.Logs.{items-stored, log_is, one_choice}
 use Rattle.copycat_tool.specs.Shown.{choice_is, parts_are}
-use Rattle.copycat_tool.specs.Runs.{EndedSo, Files, HasPrefix, InOrder, Ran, RanSo, all_reported}
+use Rattle.copycat_tool.specs.Runs.{Files, HasPrefix, InOrder, Ran, RanSo, all_reported}
 use Rattle.copycat_tool.specs.Programs.{ClosesUnopened, OrAsBefore, damaged_line, unopened_line, unopened_status}
 
 -- ITEMS AND ENTRIES

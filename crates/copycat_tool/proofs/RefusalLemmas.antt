@@ -1,15 +1,13 @@
 -- Why an offer isn't taken, from what is remembered of the disk.
-use Rattle.std.proofs.Common.{◌≡◌, ◌⊎◌, inl, inr, ⊎_elim, ℕ, ◌+◌, ◌≤◌, ◌<◌, Bool, true, false, List, Option, Some, None, is_none, refl, sym, ap, subst, ◌∙◌, arith}
+use Rattle.std.proofs.Common.{◌≡◌, ◌⊎◌, inl, inr, ℕ, ◌+◌, ◌≤◌, ◌<◌, true, false, List, Option, is_none, sym, ap, ◌∙◌, arith}
 use Rattle.std.specs.Prelude.{is_some, IsNone}
 use Rattle.std.proofs.lemmas.Bool.{cases_Bool, cases_lt}
 use Rattle.host_types.specs.Limits.{last_limit, index_limit}
 use Rattle.host_types.specs.declared.entry.Offer.{Offer}
-use Rattle.host_types.specs.declared.entry.Refusal.{Refusal}
 use Rattle.host_types.specs.declared.entry.Refusal.TheVariants.{Time, LogEnd, GenEnd}
 use Rattle.disk_model.specs.View.{View}
 use Rattle.segment_set.specs.declared.parts.Tail.{Tail}
 use Rattle.segment_set.specs.Fits.{last_of}
-use Rattle.log_model.specs.declared.Outcome.{Outcome}
 use Rattle.log_model.specs.declared.Outcome.TheVariants.{Stored, Refused}
 use Rattle.log_model.specs.Log.{folded}
 use Rattle.log_model.specs.Layout.{needs_file}

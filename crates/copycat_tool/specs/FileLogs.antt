@@ -1,5 +1,5 @@
 -- The log that the files of a folder show, and how they lie.
-use Rattle.std.specs.Prelude.{◌≡◌, ◌≤◌, ◌⊎◌, ℕ, List, [], ◌∷◌, ◌++◌, map, Option, Some, None}
+use Rattle.std.specs.Prelude.{◌≡◌, ◌≤◌, ◌⊎◌, ℕ, List, [], ◌∷◌, ◌++◌, map, Option, Some}
 use Rattle.host_types.specs.declared.entry.Ask.{Ask}
 use Rattle.host_types.specs.declared.entry.Ask.TheVariants.{Tick}
 use Rattle.host_types.specs.declared.entry.Entry.{Entry}

@@ -1,19 +1,16 @@
 -- The log that the files of a folder show, entry by entry.
-use Rattle.std.proofs.Common.{◌≡◌, ◌⊎◌, inl, inr, ⊎_elim, ℕ, ◌+◌, ◌-◌, ◌≤◌, ◌<◌, max, List, [], ◌∷◌, ◌++◌, length, map, Option, Some, None, refl, sym, ap, subst, ◌∙◌, arith, length-append, fold, Contains}
+use Rattle.std.proofs.Common.{◌≡◌, ℕ, ◌+◌, List, [], ◌∷◌, ◌++◌, length, map, refl, sym, ap, ◌∙◌, arith, fold}
 use Rattle.std.specs.List.{enumerate_from}
-use Rattle.std.proofs.lemmas.List.{map-append, length-map, append-nil}
-use Rattle.host_types.specs.declared.entry.Offer.{Offer}
 use Rattle.host_types.specs.declared.entry.Ask.{Ask}
 use Rattle.host_types.specs.declared.entry.Ask.TheVariants.{Tick}
 use Rattle.host_types.specs.declared.entry.Entry.{Entry}
 use Rattle.host_types.specs.declared.entry.Body.{Body}
 use Rattle.host_types.specs.declared.entry.Body.TheVariants.{Tick as Ticked}
-use Rattle.disk_model.specs.declared.file_id.FileId.{FileId}
-use Rattle.segment_files.specs.Parse.{Numbered, Part, Whole}
-use Rattle.segment_files.specs.Folder.{Folder, IsChoice, AreOf, Stands, entries_of}
+use Rattle.segment_files.specs.Parse.{Part}
+use Rattle.segment_files.specs.Folder.{Folder, IsChoice, AreOf}
 use Rattle.segment_set.specs.Fits.{bare, log_of}
 use Rattle.segment_set.proofs.Images.{nothing, only_one, here}
-use Rattle.log_model.specs.Log.{Item, Given, State, start, step, time_of, folded, stored, entry_of, body_of}
+use Rattle.log_model.specs.Log.{Item, Given, State, start, step, folded, stored, entry_of, body_of}
 use Rattle.copycat_tool.specs.FileLogs.{ask_of, item_of}
 
 body_back : (b : Body) → body_of (ask_of b) ≡ b

@@ -1,22 +1,22 @@
 -- The log that a disk shows, where it fits what is remembered of it.
-use Rattle.std.proofs.Common.{◌≡◌, ◌⊎◌, inl, inr, ⊎_elim, ℕ, ◌+◌, ◌-◌, ◌≤◌, ◌<◌, max, Bool, true, false, List, [], ◌∷◌, ◌++◌, length, map, Option, Some, None, is_none, refl, sym, ap, subst, ◌∙◌, arith, Contains}
+use Rattle.std.proofs.Common.{◌≡◌, ◌⊎◌, inl, inr, ℕ, ◌+◌, List, [], ◌∷◌, length, map, Option, Some, None, is_none, refl, sym, ap, subst, ◌∙◌, arith, Contains}
 use Rattle.std.proofs.lemmas.List.{length-map, append-nil}
 use Rattle.host_types.specs.declared.entry.Entry.{Entry}
 use Rattle.disk_model.specs.declared.file_id.FileId.{FileId}
 use Rattle.disk_model.specs.Image.{Image, place}
-use Rattle.disk_model.specs.View.{View, MayLeave, IsListed, Reads}
-use Rattle.segment_files.specs.Parse.{Numbered, Part, Found, Closed, Whole, Damaged, parse}
-use Rattle.segment_files.specs.Folder.{Folder, found, folder, IsChoice, AreOf, Stands}
+use Rattle.disk_model.specs.View.{View, MayLeave, IsListed}
+use Rattle.segment_files.specs.Parse.{Part, Closed, Whole, Damaged}
+use Rattle.segment_files.specs.Folder.{found, folder, IsChoice, AreOf, Stands}
 use Rattle.segment_set.specs.declared.parts.Tail.{Tail}
-use Rattle.segment_set.specs.Fits.{Fits, IsEmptyWhereNone, IsHeld, IsTailOf, TailFits, bare, log_of, last_of, parts_in}
+use Rattle.segment_set.specs.Fits.{Fits, IsEmptyWhereNone, IsHeld, bare, log_of, last_of, parts_in}
 use Rattle.segment_set.proofs.AreLogs.{are_none, are_one}
 use Rattle.segment_set.proofs.Images.{nothing, only_one, here}
 use Rattle.segment_set.proofs.Loading.{bytes_of_whole}
 use Rattle.segment_set.proofs.Gaining.{whole_plain, list_at}
 use Rattle.segment_set.proofs.Emptied.{held_empty}
-use Rattle.log_model.specs.Log.{Item, stored, folded}
-use Rattle.log_model.specs.Layout.{Layout, PartLayout, alone, greatest_of, needs_file}
-use Rattle.copycat_tool.specs.FileLogs.{IsGreatest, IsThere, Lies, StandsFor, item_of, part_layout, shown}
+use Rattle.log_model.specs.Log.{folded}
+use Rattle.log_model.specs.Layout.{alone, greatest_of, needs_file}
+use Rattle.copycat_tool.specs.FileLogs.{IsGreatest, Lies, StandsFor, item_of, part_layout, shown}
 use Rattle.copycat_tool.specs.Logs.{stored-items, folded_last}
 
 -- a part that is read whole and begins with the first entry is a log

@@ -1,5 +1,5 @@
 -- A file that was made once is listed from then on, whatever fails.
-use Rattle.std.proofs.Common.{◌≡◌, ◌⊎◌, inl, inr, ℕ, List, [], ◌∷◌, Option, Some, None, subst}
+use Rattle.std.proofs.Common.{◌≡◌, inl, inr, ℕ, List, [], ◌∷◌, Option, None, subst}
 use Rattle.disk_model.specs.Image.{Place}
 use Rattle.disk_model.specs.View.{View, MayHold, IsSound, LeavesAt}
 use Rattle.disk_model.proofs.Names.{holds_now}

@@ -1,23 +1,21 @@
 -- Where no file is listed, no image has a part: so it stays whatever fails.
-use Rattle.std.proofs.Common.{◌≡◌, ◌≢◌, ◌⊎◌, inl, inr, ⊎_elim, ℕ, ◌+◌, List, [], ◌∷◌, Option, Some, None, refl, sym, ap, subst, ◌∙◌, Contains}
-use Rattle.host_types.specs.declared.entry.Entry.{Entry}
+use Rattle.std.proofs.Common.{◌≡◌, ◌≢◌, ⊎_elim, ℕ, List, [], ◌∷◌, Option, Some, None, refl, ap, subst, ◌∙◌, Contains}
 use Rattle.disk_model.specs.declared.file_id.FileId.{FileId}
 use Rattle.disk_model.specs.Image.{Place, Image, place}
-use Rattle.disk_model.specs.View.{View, MayHold, MayLeave, IsListed, IsSettled, IsSound, LeavesAt, LeavesOnly}
+use Rattle.disk_model.specs.View.{View, MayHold, IsListed, IsSettled, IsSound, LeavesAt, LeavesOnly}
 use Rattle.disk_model.specs.Calls.{Lists}
 use Rattle.disk_model.proofs.Moments.{has_now}
 use Rattle.disk_model.proofs.Places.{own}
 use Rattle.segment_files.specs.Files.{HasNames}
-use Rattle.segment_files.specs.Parse.{Numbered, Part, Closed, Whole}
-use Rattle.segment_files.specs.Folder.{Folder, folder, IsChoice, EachHas}
+use Rattle.segment_files.specs.Parse.{Numbered, Part, Closed}
+use Rattle.segment_files.specs.Folder.{folder, IsChoice, EachHas}
 use Rattle.segment_set.specs.declared.parts.Tail.{Tail}
 use Rattle.segment_set.specs.Growth.{HasOrGains, grown}
-use Rattle.segment_set.specs.Fits.{Fits, IsEmptyWhereNone, IsHeld, TailFits, parts_in}
+use Rattle.segment_set.specs.Fits.{Fits, IsEmptyWhereNone, IsHeld}
 use Rattle.segment_set.specs.Opening.{Surveyed, OrGone}
 use Rattle.segment_set.proofs.Images.{here}
 use Rattle.segment_set.proofs.Picking.{settled_has, has_after, narrow}
 use Rattle.segment_set.proofs.Loading.{bytes_of_whole, chosen_none}
-use Rattle.segment_set.proofs.Gaining.{list_at}
 
 abbrev pub NoneListed : View → List ℕ → Type 0
 NoneListed v name = (id : FileId) → IsListed v (place name id) → ⊥

@@ -1,4 +1,4 @@
-use Rattle.std.proofs.Common.{◌≡◌, ◌<◌, ◌⊎◌, ◌++◌, ℕ, List, Some, sym, ◌∙◌, subst}
+use Rattle.std.proofs.Common.{◌≡◌, ◌<◌, ◌++◌, ℕ, List, Some, sym, ◌∙◌, subst}
 use Rattle.script_io.specs.Streams.{Rose}
 use Rattle.segment_files.specs.Folder.{folder, IsFault}
 use Rattle.segment_set.specs.Fits.{IsEmptyWhereNone}

@@ -1,10 +1,9 @@
 use Rattle.std.proofs.Common.{◌≡◌, ◌<◌, ℕ, List, inl, inr, ⊎_elim, sym, ap, subst, ◌∙◌, Err, arith}
 use Rattle.script_io.specs.Streams.{Rose}
-use Rattle.segment_set.specs.declared.opening.OpenError.{OpenError}
-use Rattle.segment_set.specs.declared.opening.OpenError.TheVariants.{Disk, Damaged, NoMemory}
+use Rattle.segment_set.specs.declared.opening.OpenError.TheVariants.{Damaged}
 use Rattle.segment_set.specs.Fits.{IsEmptyWhereNone, IsHeld}
 use Rattle.log_model.specs.Log.{stored}
-use Rattle.copycat_tool.specs.FileLogs.{IsReady, Lies, StandsFor, shown}
+use Rattle.copycat_tool.specs.FileLogs.{Lies, StandsFor, shown}
 use Rattle.copycat_tool.specs.Runs.{HasPrefix, Ran, files_of}
 use Rattle.copycat_tool.proofs.ProgramLemmas.{to_entries, left_items, opens_prefix, lies_at_start, opened_no_fault, in_order_no_fault, runs_from_start, damage_written}
 use Rattle.segment_set.specs.Opening.{id_from}

@@ -1,4 +1,4 @@
-use Rattle.std.proofs.Common.{◌+◌, ℕ, sym, ap, ◌∙◌, arith}
+use Rattle.std.proofs.Common.{sym, ◌∙◌, arith}
 use Rattle.copycat_tool.proofs.RefusalLemmas.{too_early, at_log_end, at_generation_end, is_stored, free_when}
 use Rattle.copycat_tool.proofs.file_log.FileLog.refusal.Goals as goal
 use Rattle.copycat_tool.proofs.file_log.FileLog.refusal.Goals.{else-needs_file-via-then-needs_file+else-is_none, else-needs_file-via-else-needs_file}
