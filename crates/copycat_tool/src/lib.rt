@@ -10,6 +10,8 @@ mod log;
 mod opening;
 mod program;
 mod reader;
+#[cfg(test)]
+mod tests;
 mod texts;
 mod turns;
 mod unopened;
