@@ -4,20 +4,19 @@ use Rattle.std.proofs.lemmas.List.{length-map}
 use Rattle.std.specs.List.{take-map}
 use Rattle.host_types.specs.declared.entry.Entry.{Entry}
 use Rattle.disk_model.specs.declared.file_id.FileId.{FileId}
-use Rattle.disk_model.specs.Image.{Image, IsBelow}
+use Rattle.disk_model.specs.Image.{Image}
 use Rattle.disk_model.specs.View.{View, IsSound, LeavesOnly}
 use Rattle.disk_model.proofs.Moments.{goes_further, has_now, weaker}
 use Rattle.disk_model.proofs.Places.{own}
-use Rattle.segment_files.specs.Parse.{Part, Found, Closed, Whole, Damaged}
-use Rattle.segment_files.specs.Folder.{folder, AreOf, HasOpen, IsChoice, IsDamaged, IsFault, Stands, StandsForPrefix}
+use Rattle.segment_files.specs.Parse.{Part}
+use Rattle.segment_files.specs.Folder.{folder, AreOf, IsChoice, IsFault, Stands, StandsForPrefix}
 use Rattle.segment_set.specs.declared.parts.Tail.{Tail}
 use Rattle.segment_set.specs.Fits.{Fits, IsInOrder, log_of, parts_in}
 use Rattle.segment_set.specs.declared.opening.OpenError.{OpenError}
 use Rattle.segment_set.specs.declared.opening.OpenError.TheVariants.{Damaged as Damage, NoMemory}
 use Rattle.segment_set.specs.Opening.{IsGreatestListed}
 use Rattle.segment_set.proofs.Images.{nothing, only_one}
-use Rattle.segment_set.proofs.Picking.{below_not}
-use Rattle.segment_set.proofs.Gaining.{whole_plain}
+use Rattle.segment_set.proofs.Faultless.{no_fault}
 use Rattle.log_model.specs.Log.{Item, stored, entry_of}
 use Rattle.log_model.specs.Report.{Run, items}
 use Rattle.copycat_tool.specs.FileLogs.{Lies, StandsFor, item_of, shown}
@@ -84,55 +83,25 @@ lies_at_start v w name tail greatest choice great = record {
 
 -- NO FAULT
 
-id_of_whole : (v : View) (name : List ℕ) (id : FileId) (q : Part) → folder name v.reading id ≡ Whole q → q.id ≡ id
-id_of_whole v name id q is = (whole_plain v name id q is).id_is
-
-found_whole : (v : View) (name : List ℕ) (parts : List Part) (id : FileId) → IsChoice (folder name v.reading) parts → HasOpen (folder name v.reading) id → (q : Part) × (folder name v.reading id ≡ Whole q)
-found_whole v name parts id choice has_open = at (folder name v.reading id) refl
-  where
-    at : (f : Found) → folder name v.reading id ≡ f → (q : Part) × (folder name v.reading id ≡ Whole q)
-    at Closed is = absurd (has_open is)
-    at (Whole q) is = (q, is)
-    at (Damaged n) is = absurd (choice.undamaged id n is)
-
-one_open : (v : View) (name : List ℕ) (parts : List Part) (a b : FileId) → IsChoice (folder name v.reading) parts → HasOpen (folder name v.reading) a → HasOpen (folder name v.reading) b → a ≡ b
-one_open v name parts a b choice open_a open_b =
-    let p = found_whole v name parts a choice open_a in
-    let q = found_whole v name parts b choice open_b in
-    sym (id_of_whole v name a p.0 p.1) ∙ ap (λ (r : Part). r.id) (same parts choice.one p.0 q.0 (choice.cover a p.0 p.1) (choice.cover b q.0 q.1)) ∙ id_of_whole v name b q.0 q.1
-  where
-    same : (parts : List Part) → length parts ≤ 1 → (p q : Part) → Contains parts p → Contains parts q → p ≡ q
-    same [] short p q has_p has_q = absurd (nothing p has_p)
-    same (x ∷ []) short p q has_p has_q = sym (only_one x p has_p) ∙ only_one x q has_q
-    same (x ∷ y ∷ parts) short p q has_p has_q = absurd (omega (arith, short))
-
 -- a folder that stands for a log has none
-pub no_fault : (v : View) (name : List ℕ) (log : List Entry) (id : FileId) → Stands (folder name v.reading) log → IsFault (folder name v.reading) id → ⊥
-no_fault v name log id s (inl first) = of_damage first.damaged
+stands_no_fault : (v : View) (name : List ℕ) (log : List Entry) (id : FileId) → Stands (folder name v.reading) log → IsFault (folder name v.reading) id → ⊥
+stands_no_fault v name log id s fault = no_fault v name s.parts id s.choice (based s.parts s.choice.one s.are) fault
   where
-    of_damage : IsDamaged (folder name v.reading) id → ⊥
-    of_damage (inl at) = s.choice.undamaged id at.0 at.1
-    of_damage (inr second) =
-        let same = one_open v name s.parts second.first id s.choice second.first_open second.is_open in
-        let below : IsBelow id id = subst (λ (i : FileId). IsBelow i id) same second.below in
-        below_not id id below below
-no_fault v name log id s (inr unbased) = unbased.unbased (based s.parts s.choice s.are)
-  where
-    based : (parts : List Part) → IsChoice (folder name v.reading) parts → AreOf parts log → unbased.part.id.base ≡ 1
-    based [] choice are = absurd (nothing unbased.part (choice.cover unbased.part.id unbased.part (unbased.choice.stand unbased.part (0, omega arith, refl))))
-    based (p ∷ []) choice are = ap (λ (r : Part). r.id.base) (sym (only_one p unbased.part (choice.cover unbased.part.id unbased.part (unbased.choice.stand unbased.part (0, omega arith, refl))))) ∙ are.tile.0
-    based (p ∷ q ∷ parts) choice are = absurd (let short = choice.one in omega (arith, short))
+    based : (parts : List Part) → length parts ≤ 1 → AreOf parts log → (p : Part) → Contains parts p → p.id.base ≡ 1
+    based [] short are p has = absurd (nothing p has)
+    based (x ∷ []) short are p has = ap (λ (r : Part). r.id.base) (sym (only_one x p has)) ∙ are.tile.0
+    based (x ∷ y ∷ parts) short are p has = absurd (omega (arith, short))
 
 -- where a log was opened there was none
 pub opened_no_fault : (v w : View) (name : List ℕ) (tail : Option Tail) (greatest : ℕ) (id : FileId) → Fits w name tail greatest → IsChoice (folder name v.reading) (parts_in w.reading name tail) → IsFault (folder name v.reading) id → ⊥
 opened_no_fault v w name tail greatest id fits choice fault =
-    no_fault v name (log_of (parts_in w.reading name tail)) id (record { parts = parts_in w.reading name tail; choice = choice; are = parts_are w name tail greatest fits }) fault
+    stands_no_fault v name (log_of (parts_in w.reading name tail)) id (record { parts = parts_in w.reading name tail; choice = choice; are = parts_are w name tail greatest fits }) fault
 
 -- nor where every crash leaves a log
 pub in_order_no_fault : (v : View) (name : List ℕ) (log : List Item) (least : ℕ) (id : FileId) → IsSound v → InOrder (StandsFor name) v log least → IsFault (folder name v.reading) id → ⊥
 in_order_no_fault v name log least id sound order fault =
     let p = order v.reading (λ q. own v sound q) in
-    no_fault v name (stored (take p.count log)) id p.is fault
+    stands_no_fault v name (stored (take p.count log)) id p.is fault
 
 -- what was written where the status says that a file is damaged
 pub damage_written : (name : List ℕ) (error : OpenError) (before : List ℕ) (written : Option (List ℕ)) (status : ℕ) → ClosesUnopened name error before written status → status ≡ 7

@@ -1,5 +1,5 @@
 -- The log that the files of a folder show, and how they lie.
-use Rattle.std.specs.Prelude.{◌≡◌, ◌≤◌, ◌⊎◌, ℕ, List, [], ◌∷◌, ◌++◌, map, Option, Some}
+use Rattle.std.specs.Prelude.{◌≡◌, ◌≤◌, ◌⊎◌, ℕ, List, [], ◌∷◌, ◌++◌, map, Option, Some, Contains}
 use Rattle.host_types.specs.declared.entry.Ask.{Ask}
 use Rattle.host_types.specs.declared.entry.Ask.TheVariants.{Tick}
 use Rattle.host_types.specs.declared.entry.Entry.{Entry}
@@ -49,6 +49,11 @@ pub record Lies (name : List ℕ) (image : Image) (layout : Layout) : Type 0 whe
   pub choice : IsChoice (folder name image) parts
   pub parts_are : layout.parts ≡ map part_layout parts
   pub greatest : IsGreatest image name layout.greatest
+
+-- and no others are there
+pub record LiesAlone (name : List ℕ) (image : Image) (layout : Layout) : Type 0 where
+  pub lies : Lies name image layout
+  pub only : (id : FileId) → IsThere image name id → (p : PartLayout) × Contains layout.parts p × (p.base ≡ id.base) × (p.generation ≡ id.generation)
 
 -- the run that a disk shows, where its log has this tail
 abbrev pub shown : View → List ℕ → Option Tail → ℕ → Run

@@ -9,7 +9,7 @@ use Rattle.segment_set.specs.declared.opening.OpenError.{OpenError}
 use Rattle.segment_set.specs.declared.opening.OpenError.TheVariants.{Disk, Damaged, NoMemory}
 use Rattle.log_model.specs.Log.{Item}
 use Rattle.log_model.specs.Report.{Run}
-use Rattle.copycat_tool.specs.FileLogs.{Lies, StandsFor}
+use Rattle.copycat_tool.specs.FileLogs.{Lies, LiesAlone, StandsFor}
 use Rattle.copycat_tool.specs.Runs.{Closes, HasPrefix, RanSo, files_of}
 
 -- THE LINES
@@ -53,7 +53,7 @@ pub record OpensAndRuns (name : List ℕ) (size : ℕ) (log : List Item) (least 
   pub within : count ≤ length log
   pub log_is : run.log ≡ take count log
   pub lies : Lies name old.reading run.layout
-  pub ran : RanSo (files_of StandsFor Lies name size) run script left (OrAsBefore old new (HasPrefix (StandsFor name) log least)) new text status read_failed disk_failed
+  pub ran : RanSo (files_of StandsFor LiesAlone name size) run script left (OrAsBefore old new (HasPrefix (StandsFor name) log least)) new text status read_failed disk_failed
 
 -- The log couldn't be opened, for want of memory or by a fault of the disk. It is still in order, and nothing was read of the script.
 pub record StaysUnopened (name : List ℕ) (log : List Item) (least : ℕ) (script : List ℕ) (left : Option (List ℕ)) (old new : View) (text : List ℕ) (status : ℕ) (disk_failed : Type 0) : Type 0 where

@@ -15,8 +15,8 @@ use Rattle.segment_set.proofs.Loading.{bytes_of_whole}
 use Rattle.segment_set.proofs.Gaining.{whole_plain, list_at}
 use Rattle.segment_set.proofs.Emptied.{held_empty}
 use Rattle.log_model.specs.Log.{folded}
-use Rattle.log_model.specs.Layout.{alone, greatest_of, needs_file}
-use Rattle.copycat_tool.specs.FileLogs.{IsGreatest, Lies, StandsFor, item_of, part_layout, shown}
+use Rattle.log_model.specs.Layout.{PartLayout, alone, greatest_of, needs_file}
+use Rattle.copycat_tool.specs.FileLogs.{IsGreatest, IsThere, LiesAlone, StandsFor, item_of, part_layout, shown}
 use Rattle.copycat_tool.specs.Logs.{stored-items, folded_last}
 
 -- a part that is read whole and begins with the first entry is a log
@@ -111,13 +111,28 @@ is_kept v name tail greatest fits held image may =
     subst (λ (l : List Entry). Stands (folder name image) l) (sym (stored-items (log_of (parts_in v.reading name tail))))
     (record { parts = parts_in v.reading name tail; choice = held image may; are = parts_are v name tail greatest fits })
 
+only_is : (v : View) (name : List ℕ) (tail : Option Tail) (greatest : ℕ) → Fits v name tail greatest → (id : FileId) → IsThere v.reading name id
+    → (p : PartLayout) × Contains (map part_layout (parts_in v.reading name tail)) p × (p.base ≡ id.base) × (p.generation ≡ id.generation)
+only_is v name None greatest fits id there = absurd (fits.only id there)
+only_is v name (Some tail) greatest fits id there =
+    let t = fits.tail_is in
+    let is : t.part.id ≡ id = (whole_plain v name tail.id t.part t.whole).id_is ∙ sym (fits.only id there) in (
+      part_layout t.part,
+      subst (λ (ps : List Part). Contains (map part_layout ps) (part_layout t.part)) (sym (list_at v name tail t.part t.whole)) (here (part_layout t.part) []),
+      ap (λ (i : FileId). i.base) is,
+      ap (λ (i : FileId). i.generation) is,
+    )
+
 -- the files lie so, with no others beside them
-pub is_laid_out : (v : View) (name : List ℕ) (tail : Option Tail) (greatest : ℕ) → Fits v name tail greatest → Lies name v.reading (alone (shown v name tail greatest).layout)
+pub is_laid_out : (v : View) (name : List ℕ) (tail : Option Tail) (greatest : ℕ) → Fits v name tail greatest → LiesAlone name v.reading (alone (shown v name tail greatest).layout)
 is_laid_out v name tail greatest fits = record {
-  parts = parts_in v.reading name tail;
-  choice = choice_is v name tail greatest fits;
-  parts_are = refl;
-  greatest = greatest_is v name tail greatest fits;
+  lies = record {
+    parts = parts_in v.reading name tail;
+    choice = choice_is v name tail greatest fits;
+    parts_are = refl;
+    greatest = greatest_is v name tail greatest fits;
+  };
+  only = only_is v name tail greatest fits;
 }
 
 -- where no file is listed, nothing comes back

@@ -7,7 +7,7 @@ ghost use Rattle.segment_set.specs.Fits.{IsEmptyWhereNone, IsFrameFor, IsHeld, l
 ghost use Rattle.log_model.specs.Log.{Given};
 ghost use Rattle.log_model.specs.Report.{outcome};
 ghost use Rattle.copycat_tool.specs.Runs.{KeepsOtherNames, OldOrNew};
-ghost use Rattle.copycat_tool.specs.FileLogs.{IsReady, Lies, StandsFor, shown, with_one};
+ghost use Rattle.copycat_tool.specs.FileLogs.{IsReady, LiesAlone, StandsFor, shown, with_one};
 
 use crate::log::TickLog;
 use disk_model::{Disk, DiskFault};
@@ -117,7 +117,7 @@ impl<D: Disk> TickLog for FileLog<D> {
 
     ghost stands = { StandsFor };
 
-    ghost lies = { Lies };
+    ghost lies = { LiesAlone };
 
     ghost reopens = { λ name v. IsEmptyWhereNone v name };
 

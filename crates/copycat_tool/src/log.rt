@@ -31,7 +31,7 @@ pub trait TickLog {
     /// Under that name an image stands for this log.
     ghost stands: { List ℕ → Image → List Item → Type 0 };
 
-    /// Under that name an image has files that lie so.
+    /// Under that name an image has files that lie so, and no others.
     ghost lies: { List ℕ → Image → Layout → Type 0 };
 
     /// Under that name the log can be opened again from this disk, with what a crash may leave of it.

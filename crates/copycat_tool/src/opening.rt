@@ -1,6 +1,7 @@
 // A log is opened: its files, and then its time.
 ghost use Rattle.std.specs.Prelude.{◌≡◌, ℕ, List, IsTrue, IfOk, IsErrOf};
 ghost use Rattle.host_types.specs.declared.entry.Entry.{Entry};
+ghost use Rattle.disk_model.specs.declared.file_id.FileId.{FileId};
 ghost use Rattle.disk_model.specs.View.{LeavesAt, LeavesOnly, MayHold};
 ghost use Rattle.disk_model.specs.Calls.{Stays};
 ghost use Rattle.segment_files.specs.Parse.{Numbered, Part, Whole};
@@ -92,6 +93,10 @@ pub fn open_log<D: Disk>(alloc: Global, disk: &mut D, name: &LogName) -> Result<
     // A damaged file is named by its cause, and the files are as they were.
     ensures damaged { (base generation at : ℕ) → IsErrOf result (OpenError.Damaged base generation at)
         → (at ≡ 0) × (IsTrue D.tells → IsFault (folder name.now (D.view disk.old).reading) (id_from base generation) × ((D.view disk.new).reading ≡ (D.view disk.old).reading)) }
+
+    // Whatever it answers of files that aren't right, they are as they were.
+    ensures unharmed { IsTrue D.tells → (id : FileId) → IsFault (folder name.now (D.view disk.old).reading) id
+        → ((D.view disk.new).reading ≡ (D.view disk.old).reading) × LeavesAt (D.view disk.old) (D.view disk.new) (MayHold (D.view disk.old)) }
 
     ensures any_moment { IsTrue D.tells → (log : List Entry) (least : ℕ) → IsInOrder (D.view disk.old) name.now log least
         → LeavesOnly (D.view disk.old) (D.view disk.new) (StandsForPrefix name.now log least) }

@@ -2,6 +2,7 @@
 ghost use Rattle.std.specs.Prelude.{◌≡◌, ◌<◌, ◌≤◌, ◌++◌, ◌⊎◌, ℕ, List, Option, Some, None, IsTrue, map};
 ghost use Rattle.script_io.specs.Streams.{Rose};
 ghost use Rattle.disk_model.specs.declared.file_id.FileId.{FileId};
+ghost use Rattle.disk_model.specs.View.{LeavesAt, MayHold};
 ghost use Rattle.segment_files.specs.Folder.{folder, IsFault};
 ghost use Rattle.segment_set.specs.Fits.{IsEmptyWhereNone};
 ghost use Rattle.log_model.specs.Log.{Item};
@@ -40,6 +41,8 @@ fn run_log<I: Source, D: Disk, O: Sink>(
     ensures damaged { result.0.0 ≡ 7 → IsTrue D.tells → (before : List ℕ) → O.written out.old ≡ Some before
         → TellsDamage name.now (D.view disk) (D.view result.1) before (O.written out.new) }
     ensures damage_told { IsTrue D.tells → (id : FileId) → IsFault (folder name.now (D.view disk).reading) id → (result.0.0 ≡ 7) ⊎ (result.0.0 ≡ 5) ⊎ (result.0.0 ≡ 6) ⊎ (result.0.0 ≡ 8) }
+    ensures unharmed { IsTrue D.tells → (id : FileId) → IsFault (folder name.now (D.view disk).reading) id
+        → ((D.view result.1).reading ≡ (D.view disk).reading) × LeavesAt (D.view disk) (D.view result.1) (MayHold (D.view disk)) }
     ensures others { IsTrue D.tells → KeepsOtherNames (D.view disk) (D.view result.1) name.now }
     ensures read { result.0.0 ≡ 4 → Rose (I.faults script.old) (I.faults script.new) }
     ensures write { result.0.0 ≡ 5 → Rose (O.faults out.old) (O.faults out.new) }
@@ -91,11 +94,13 @@ pub fn run<I: Source, D: Disk, O: Sink>(
     // Where no file of the name is listed at the end, no crash brings one back: so the folder is in order for the next run.
     ensures empty { IsTrue D.tells → (name : List ℕ) → run_name (map (λ w. w.items) words.now) ≡ Some name → IsEmptyWhereNone (D.view disk) name → IsEmptyWhereNone (D.view result.1) name }
 
-    // A folder that isn't right is told as such, and left as it is.
+    // A folder that isn't right is told as such, or some other status has its cause; it is left as it is, whatever a crash leaves.
     ensures damaged { result.0.0 ≡ 7 → IsTrue D.tells → (name before : List ℕ) → run_name (map (λ w. w.items) words.now) ≡ Some name → O.written out.old ≡ Some before
         → TellsDamage name (D.view disk) (D.view result.1) before (O.written out.new) }
     ensures damage_told { IsTrue D.tells → (name : List ℕ) (id : FileId) → run_name (map (λ w. w.items) words.now) ≡ Some name → IsFault (folder name (D.view disk).reading) id
         → (result.0.0 ≡ 7) ⊎ (result.0.0 ≡ 5) ⊎ (result.0.0 ≡ 6) ⊎ (result.0.0 ≡ 8) }
+    ensures unharmed { IsTrue D.tells → (name : List ℕ) (id : FileId) → run_name (map (λ w. w.items) words.now) ≡ Some name → IsFault (folder name (D.view disk).reading) id
+        → ((D.view result.1).reading ≡ (D.view disk).reading) × LeavesAt (D.view disk) (D.view result.1) (MayHold (D.view disk)) }
 
     ensures others { IsTrue D.tells → (name : List ℕ) → run_name (map (λ w. w.items) words.now) ≡ Some name → KeepsOtherNames (D.view disk) (D.view result.1) name }
 

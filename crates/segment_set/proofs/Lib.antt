@@ -17,3 +17,4 @@ pub mod Gaining
 pub mod Advancing
 pub mod Starting
 pub mod Emptied
+pub mod Faultless

@@ -192,6 +192,10 @@ impl Parts {
         ensures damaged { (base generation at : ℕ) → IsErrOf result (OpenError.Damaged base generation at)
             → (at ≡ 0) × (IsTrue D.tells → IsFault (folder name.now (D.view disk.old).reading) (id_from base generation) × ((D.view disk.new).reading ≡ (D.view disk.old).reading)) }
 
+        // Whatever it answers of files that aren't right, they are as they were.
+        ensures unharmed { IsTrue D.tells → (id : FileId) → IsFault (folder name.now (D.view disk.old).reading) id
+            → ((D.view disk.new).reading ≡ (D.view disk.old).reading) × LeavesAt (D.view disk.old) (D.view disk.new) (MayHold (D.view disk.old)) }
+
         ensures any_moment { IsTrue D.tells → (log : List Entry) (least : ℕ) → IsInOrder (D.view disk.old) name.now log least
             → LeavesOnly (D.view disk.old) (D.view disk.new) (StandsForPrefix name.now log least) }
         ensures empty { IsTrue D.tells → IsEmptyWhereNone (D.view disk.old) name.now → IsEmptyWhereNone (D.view disk.new) name.now }

@@ -3,6 +3,7 @@ use Rattle.segment_files.specs.Folder.{StandsForPrefix}
 use Rattle.segment_set.specs.declared.opening.OpenError.TheVariants.{Damaged as Is_damaged}
 use Rattle.copycat_tool.proofs.OpenedLemmas.{ready_stays, held_stays, left_then}
 use Rattle.segment_set.proofs.Emptied.{empty_stays}
+use Rattle.segment_set.proofs.Turns.{left_further}
 use Rattle.copycat_tool.proofs.opening.open_log.Goals as goal
 
 pub returns-in-Err-clause-damaged : goal.returns-in-Err-clause-damaged
@@ -33,3 +34,17 @@ returns-in-Ok-time_of-clause-empty g c = λ t empty.
 pub returns-in-Err-time_of-clause-empty : goal.returns-in-Err-time_of-clause-empty
 returns-in-Err-time_of-clause-empty g c = λ t empty.
     empty_stays (g.D.Disk.view c.load.new.disk) (g.D.Disk.view c.time_of.new.disk) c.args.name.now (g.met.D.Disk.sound c.time_of.new.disk t) (c.time_of.ensures.stays t).reading (c.time_of.ensures.any_moment t) (c.load.ensures.empty t empty)
+
+pub returns-in-Ok-time_of-clause-unharmed : goal.returns-in-Ok-time_of-clause-unharmed
+returns-in-Ok-time_of-clause-unharmed g c = λ t id fault.
+    let same = c.load.ensures.unharmed t id fault in (
+      (c.time_of.ensures.stays t).reading ∙ same.0,
+      left_further (g.D.Disk.view c.args.disk.now) (g.D.Disk.view c.load.new.disk) (g.D.Disk.view c.time_of.new.disk) (g.met.D.Disk.sound c.load.new.disk t) same.1 (c.time_of.ensures.any_moment t),
+    )
+
+pub returns-in-Err-time_of-clause-unharmed : goal.returns-in-Err-time_of-clause-unharmed
+returns-in-Err-time_of-clause-unharmed g c = λ t id fault.
+    let same = c.load.ensures.unharmed t id fault in (
+      (c.time_of.ensures.stays t).reading ∙ same.0,
+      left_further (g.D.Disk.view c.args.disk.now) (g.D.Disk.view c.load.new.disk) (g.D.Disk.view c.time_of.new.disk) (g.met.D.Disk.sound c.load.new.disk t) same.1 (c.time_of.ensures.any_moment t),
+    )

@@ -26,3 +26,8 @@ pub returns-in-Some-clause-empty : goal.returns-in-Some-clause-empty
 returns-in-Some-clause-empty g c = λ t name named empty.
     let same : c.in-Some.name ≡ name = cc (sym c.in-Some.is ∙ c.read_words.ensures ∙ named) in
     subst (λ (n : List ℕ). IsEmptyWhereNone (g.D.Disk.view c.run_log.result.1) n) same (c.run_log.ensures.empty t (subst (λ (n : List ℕ). IsEmptyWhereNone (g.D.Disk.view c.args.disk) n) (sym same) empty))
+
+pub returns-in-Some-clause-unharmed : goal.returns-in-Some-clause-unharmed
+returns-in-Some-clause-unharmed g c = λ t name id named fault.
+    let same : c.in-Some.name ≡ name = cc (sym c.in-Some.is ∙ c.read_words.ensures ∙ named) in
+    c.run_log.ensures.unharmed t id (subst (λ (n : List ℕ). IsFault (folder n (g.D.Disk.view c.args.disk).reading) id) (sym same) fault)

@@ -3,7 +3,7 @@ use Rattle.script_io.specs.Streams.{Rose}
 use Rattle.segment_set.specs.declared.opening.OpenError.TheVariants.{Damaged}
 use Rattle.segment_set.specs.Fits.{IsEmptyWhereNone, IsHeld}
 use Rattle.log_model.specs.Log.{stored}
-use Rattle.copycat_tool.specs.FileLogs.{Lies, StandsFor, shown}
+use Rattle.copycat_tool.specs.FileLogs.{LiesAlone, StandsFor, shown}
 use Rattle.copycat_tool.specs.Runs.{HasPrefix, Ran, files_of}
 use Rattle.copycat_tool.proofs.ProgramLemmas.{to_entries, left_items, opens_prefix, lies_at_start, opened_no_fault, in_order_no_fault, runs_from_start, damage_written}
 use Rattle.segment_set.specs.Opening.{id_from}
@@ -21,7 +21,7 @@ returns-in-Ok-clause-ran g c = λ t bytes before left was log least order empty.
     let prefix = opens_prefix v m name tail greatest log least (g.met.D.Disk.sound c.open_log.new.disk t) (c.in-Ok.ensures.ready t).fits left_opening in
     let held = subst (λ (n : List ℕ). IsHeld m n tail) (sym c.in-Ok.ensures.name) (c.in-Ok.ensures.held t empty) in
     let ran = c.run_script-status.ensures.ran t held bytes before left was in
-    let ran_named = subst (λ (n : List ℕ). Ran (files_of StandsFor Lies n 1024) (shown m n tail greatest) bytes (g.I.Source.left c.run_script-status.new.script) m w ran.0 c.run_script-status.result.0
+    let ran_named = subst (λ (n : List ℕ). Ran (files_of StandsFor LiesAlone n 1024) (shown m n tail greatest) bytes (g.I.Source.left c.run_script-status.new.script) m w ran.0 c.run_script-status.result.0
     (Rose (g.I.Source.faults c.args.script.now) (g.I.Source.faults c.run_script-status.new.script)) (g.D.Disk.faults c.open_log.new.disk < g.D.Disk.faults c.run_script-status.new.log.disk)) c.in-Ok.ensures.name ran.2 in (
       ran.0,
       ran.1,
@@ -32,7 +32,7 @@ returns-in-Ok-clause-ran g c = λ t bytes before left was log least order empty.
         within = prefix.within;
         log_is = prefix.is;
         lies = lies_at_start v m name tail greatest (c.in-Ok.ensures.choice t) (c.in-Ok.ensures.greatest t);
-        ran = runs_from_start (files_of StandsFor Lies name 1024) (shown m name tail greatest) bytes (g.I.Source.left c.run_script-status.new.script) v m w (HasPrefix (StandsFor name) log least) ran.0 c.run_script-status.result.0
+        ran = runs_from_start (files_of StandsFor LiesAlone name 1024) (shown m name tail greatest) bytes (g.I.Source.left c.run_script-status.new.script) v m w (HasPrefix (StandsFor name) log least) ran.0 c.run_script-status.result.0
             (Rose (g.I.Source.faults c.args.script.now) (g.I.Source.faults c.run_script-status.new.script)) (g.D.Disk.faults c.open_log.new.disk < g.D.Disk.faults c.run_script-status.new.log.disk) (g.D.Disk.faults c.args.disk < g.D.Disk.faults c.run_script-status.new.log.disk)
             (left_items v m name log least left_opening) (λ rose. omega (arith, rose, c.open_log.ensures.cause.later)) ran_named;
       }),
@@ -77,3 +77,7 @@ pub returns-in-Ok-clause-empty : goal.returns-in-Ok-clause-empty
 returns-in-Ok-clause-empty g c = λ t empty.
     let held = subst (λ (n : List ℕ). IsHeld (g.D.Disk.view c.open_log.new.disk) n c.in-Ok.start.parts.tail) (sym c.in-Ok.ensures.name) (c.in-Ok.ensures.held t empty) in
     subst (λ (n : List ℕ). IsEmptyWhereNone (g.D.Disk.view c.run_script-status.new.log.disk) n) c.in-Ok.ensures.name (c.run_script-status.ensures.reopens t held)
+
+pub returns-in-Ok-clause-unharmed : goal.returns-in-Ok-clause-unharmed
+returns-in-Ok-clause-unharmed g c = λ t id fault.
+    absurd (opened_no_fault (g.D.Disk.view c.args.disk) (g.D.Disk.view c.open_log.new.disk) c.args.name.now c.in-Ok.start.parts.tail c.in-Ok.start.parts.greatest id (c.in-Ok.ensures.ready t).fits (c.in-Ok.ensures.choice t) fault)

@@ -11,6 +11,8 @@ use Rattle.segment_set.proofs.Loading.{closed_listed}
 use Rattle.segment_set.proofs.Loaded.{opens_by, loaded_choice, loaded_fits, loaded_held, loaded_greatest, unbased}
 use Rattle.segment_set.proofs.Turns.{closed_then, found_id, listed_again}
 use Rattle.segment_set.proofs.Emptied.{empty_stays, emptied}
+use Rattle.segment_set.proofs.Faultless.{surveyed_no_fault}
+use Rattle.segment_set.proofs.Turns.{left_further}
 use Rattle.segment_set.proofs.parts.Parts.load.Goals as goal
 
 pub returns-in-Err-clause-any_moment : goal.returns-in-Err-clause-any_moment
@@ -203,3 +205,36 @@ returns-clause-empty g c = λ t empty.
     (c.in-Ok.ensures.lists t) (c.settle_all.ensures.reading t) (c.in-Ok.ensures.settled t) (c.in-Ok.ensures.names t) (c.settle_all.ensures.any_moment t) (c.read_all.ensures.reading t) (c.read_all.ensures.any_moment t)
     (c.in-Ok-read_all.ensures.surveyed t) (c.remove_all.ensures.any_moment t) (c.remove_all.ensures.others t)
     (g.met.D.Disk.sound c.settle_all.new.disk t) (g.met.D.Disk.sound c.read_all.new.disk t) (g.met.D.Disk.sound c.remove_all.new.disk t) empty
+
+pub returns-in-Err-clause-unharmed : goal.returns-in-Err-clause-unharmed
+returns-in-Err-clause-unharmed g c = λ t id fault. (c.settle_all.ensures.reading t, c.settle_all.ensures.any_moment t)
+
+pub returns-in-Err-read_all-clause-unharmed : goal.returns-in-Err-read_all-clause-unharmed
+returns-in-Err-read_all-clause-unharmed g c = λ t id fault. (
+  c.read_all.ensures.reading t ∙ c.settle_all.ensures.reading t,
+  left_further (g.D.Disk.view c.args.disk.now) (g.D.Disk.view c.settle_all.new.disk) (g.D.Disk.view c.read_all.new.disk) (g.met.D.Disk.sound c.settle_all.new.disk t) (c.settle_all.ensures.any_moment t) (c.read_all.ensures.any_moment t),
+)
+
+pub returns-in-Err-tail_of-clause-unharmed : goal.returns-in-Err-tail_of-clause-unharmed
+returns-in-Err-tail_of-clause-unharmed g c = λ t id fault. (
+  c.read_all.ensures.reading t ∙ c.settle_all.ensures.reading t,
+  left_further (g.D.Disk.view c.args.disk.now) (g.D.Disk.view c.settle_all.new.disk) (g.D.Disk.view c.read_all.new.disk) (g.met.D.Disk.sound c.settle_all.new.disk t) (c.settle_all.ensures.any_moment t) (c.read_all.ensures.any_moment t),
+)
+
+pub returns-in-Ok-remove_all-clause-unharmed : goal.returns-in-Ok-remove_all-clause-unharmed
+returns-in-Ok-remove_all-clause-unharmed g c = λ t id fault.
+    let v0 = g.D.Disk.view c.args.disk.now in
+    let v1 = g.D.Disk.view c.settle_all.new.disk in
+    let found = c.in-Ok-read_all.found in
+    absurd (surveyed_no_fault v0 v1 c.args.name.now c.in-Ok.ids.items found.closed.items found.opened c.in-Ok-tail_of.tail id (c.in-Ok.ensures.lists t) (c.settle_all.ensures.reading t)
+    (subst (λ (l : List FileId). Surveyed (folder c.args.name.now v1.reading) l found.closed.items (opened_id found.opened)) c.deref.ensures.value (c.in-Ok-read_all.ensures.surveyed t))
+    (c.in-Ok-read_all.ensures.opened t) c.in-Ok-tail_of.ensures.ok fault)
+
+pub returns-clause-unharmed : goal.returns-clause-unharmed
+returns-clause-unharmed g c = λ t id fault.
+    let v0 = g.D.Disk.view c.args.disk.now in
+    let v1 = g.D.Disk.view c.settle_all.new.disk in
+    let found = c.in-Ok-read_all.found in
+    absurd (surveyed_no_fault v0 v1 c.args.name.now c.in-Ok.ids.items found.closed.items found.opened c.in-Ok-tail_of.tail id (c.in-Ok.ensures.lists t) (c.settle_all.ensures.reading t)
+    (subst (λ (l : List FileId). Surveyed (folder c.args.name.now v1.reading) l found.closed.items (opened_id found.opened)) c.deref.ensures.value (c.in-Ok-read_all.ensures.surveyed t))
+    (c.in-Ok-read_all.ensures.opened t) c.in-Ok-tail_of.ensures.ok fault)
