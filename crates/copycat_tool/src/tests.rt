@@ -2,11 +2,14 @@
 ghost use Rattle.std.specs.Prelude.{◌≡◌, None};
 ghost use Rattle.disk_model.specs.Image.{IsFileId};
 
-use crate::{USAGE, run};
+use crate::{FileLog, TickLog, USAGE, run};
+use disk_files::FileDisk;
 use disk_memory::{MemoryDisk, Outcome, SureDisk};
 use disk_model::{Disk, DiskFault, FileId};
-use host_types::LogName;
+use host_types::{Ask, LogName, Offer, Refusal};
+use log_model::Outcome as Answer;
 use script_io::{Failed, MemorySink, MemorySource, Source, SureSource};
+use segment_set::{Parts, Tail};
 use std::alloc::{AllocError, Global};
 use std::process::Abort;
 use std::test::Fail;
@@ -513,6 +516,41 @@ fn a_script_may_be_too_long(rt: HostRuntime) -> Result<(), Fail> {
         let (ended, _) = run(alloc, &words, &mut script, SureDisk::new(alloc), &mut out);
         assert_eq!(rt; ended.0, status);
         assert!(rt; out.bytes().ends_with(last.as_bytes()));
+    }
+    Ok(())
+}
+
+/// A log with its last index. Its file would have 94 GB, so the disk is one that tells nothing, and no call of it is made.
+#[test]
+fn the_last_index_is_the_end(rt: HostRuntime) -> Result<(), Fail> {
+    let alloc = rt.alloc();
+    let tail = Tail {
+        id: FileId {
+            base: 1,
+            generation: 1,
+        },
+        last: 4294967295,
+        gate: 64,
+        size: 1024,
+    };
+    let mut log = FileLog {
+        disk: FileDisk::new(&rt),
+        parts: Parts {
+            name: LogName::new(b"db").expect(&rt, "a name"),
+            tail: Some(tail),
+            greatest: 1,
+        },
+        time: 5,
+        size: 1024,
+        frame: Vec::new(alloc),
+    };
+    let table = [(4, Refusal::Time { now: 5 }), (5, Refusal::LogEnd)];
+    for (time, why) in table {
+        let offer = Offer {
+            time,
+            ask: Ask::Tick,
+        };
+        assert_eq!(rt; log.offer(alloc, &offer), Ok(Answer::Refused { why }));
     }
     Ok(())
 }
