@@ -1,3 +1,7 @@
+pub mod Cells
+pub mod Decision
 pub mod Limits
 pub mod Name
 pub mod Padding
+pub mod Ranges
+pub mod Text

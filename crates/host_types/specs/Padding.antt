@@ -1,5 +1,5 @@
 -- How the bytes of a name lie in its array: what stands behind them is zero.
-use Rattle.std.specs.Prelude.{◌≡◌, ℕ, ◌+◌, ◌-◌, ◌≤◌, List, ◌++◌, length, take, drop, replicate, refl}
+use Rattle.std.specs.Prelude.{◌≡◌, ℕ, ◌-◌, ◌≤◌, List, ◌++◌, length, take, drop, replicate}
 use Rattle.std.proofs.Common.{ap, sym, ◌∙◌, arith, length-take, take-append-drop}
 use Rattle.host_types.specs.declared.log_name.LogName.TheInside.{Inside}
 

@@ -1,5 +1,5 @@
-use Rattle.std.proofs.Common.{◌≡◌, ℕ, ◌+◌, ◌-◌, ◌≤◌, zero, suc, List, [], ◌++◌, length, drop, replicate, refl, ◌∙◌, ap, arith, rules, length-append, length-drop}
-use Rattle.std.proofs.lemmas.List.{drop_at, length-replicate}
+use Rattle.std.proofs.Common.{◌≡◌, ℕ, ◌+◌, ◌-◌, ◌≤◌, zero, suc, List, ◌++◌, length, drop, replicate, ◌∙◌, ap, arith, rules, length-append, length-drop}
+use Rattle.std.proofs.lemmas.List.{drop_at}
 use Rattle.host_types.specs.Padding.{IsPadded}
 use Rattle.host_types.proofs.log_name.LogName.new.Goals as goal
 

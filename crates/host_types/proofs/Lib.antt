@@ -1,0 +1,4 @@
+pub mod CellLaws
+pub mod CellRanges
+pub mod Places
+pub mod TextLemmas
