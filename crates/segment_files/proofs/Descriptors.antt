@@ -2,7 +2,7 @@
 use Rattle.std.proofs.Common.{◌≡◌, ℕ, ◌+◌, ◌<◌, Bool, true, false, not, ◌&&◌, nat_eq, nat_lt, if◌then◌else◌, List, [], ◌∷◌, length, slice_index, Some, None, refl, sym, ap, ◌∙◌}
 use Rattle.std.proofs.lemmas.Bool.{and_parts, and_left, and_right, not-true, lt-ltb}
 use Rattle.disk_model.specs.declared.file_id.FileId.{FileId}
-use Rattle.segment_files.specs.Spelling.{Four, Eight, bytes_of, number_at}
+use Rattle.segment_files.specs.Numbers.{Four, Eight, bytes_of, number_at}
 use Rattle.segment_files.specs.Parse.{Field, first_wrong, descriptor_fields, is_size, mark}
 
 -- whether each field is whole in so many bytes

@@ -1,7 +1,11 @@
 -- The worked bytes of the format, read.
 use Rattle.std.proofs.Common.{◌≡◌, ℕ, false, List, [], ◌∷◌, ◌++◌, take, drop, refl}
 use Rattle.disk_model.specs.declared.file_id.FileId.{FileId}
-use Rattle.segment_files.specs.Spelling.{number_at, spelling, tick_at}
+use Rattle.host_types.specs.declared.entry.Entry.{Entry}
+use Rattle.host_types.specs.declared.entry.Body.TheVariants.{Tick}
+use Rattle.entry_codec.specs.Reading.{spelling, entry_at, bounded_at, byte_at, body_at, body_behind}
+use Rattle.entry_codec.specs.Reading as reading
+use Rattle.segment_files.specs.Numbers.{number_at}
 use Rattle.segment_files.specs.Parse.{Closed, Whole, Damaged, parse, parse_open, body, frame, appended_walk, descriptor_fields}
 
 abbrev eight : ℕ → List ℕ
@@ -10,6 +14,9 @@ eight n = 0 ∷ 0 ∷ 0 ∷ 0 ∷ 0 ∷ 0 ∷ 0 ∷ n ∷ []
 -- the descriptor of the file that is appended to first, of which the next is begun after 1024 entries
 abbrev head : List ℕ
 head = (1 ∷ 1 ∷ 0 ∷ 0 ∷ 67 ∷ 67 ∷ 76 ∷ 71 ∷ []) ++ eight 1 ++ eight 1 ++ eight 0 ++ eight 0 ++ eight 0 ++ eight 0 ++ (0 ∷ 0 ∷ 4 ∷ 0 ∷ 0 ∷ 0 ∷ 0 ∷ 0 ∷ [])
+
+abbrev tick_at : ℕ → Entry
+tick_at time = record { time = time; body = Tick }
 
 abbrev tick : ℕ → ℕ → List ℕ
 tick index time = eight index ++ eight time ++ (4 ∷ [])
@@ -25,47 +32,54 @@ abbrev id : FileId
 id = record { base = 1; generation = 1 }
 
 a_tick : parse id file ≡ Whole (record { id = id; rewritten = false; last = 1; cut = 0; floor = 0; size = 1024; entries = (1, tick_at 1) ∷ []; gate = 86 })
-unfolding parse_open number_at spelling body frame appended_walk descriptor_fields
+unfolding parse_open number_at spelling entry_at bounded_at reading.number_at byte_at body_at body_behind body frame appended_walk descriptor_fields
 a_tick = refl
 
 -- a torn gate, and bytes behind it
 torn_gate : parse id (head ++ open_frame (tick 1 1) ++ (7 ∷ 9 ∷ 9 ∷ [])) ≡ parse id file
-unfolding parse_open number_at spelling body frame appended_walk descriptor_fields
+unfolding parse_open number_at spelling entry_at bounded_at reading.number_at byte_at body_at body_behind body frame appended_walk descriptor_fields
 torn_gate = refl
 
 no_entries : parse id (head ++ (0 ∷ [])) ≡ Whole (record { id = id; rewritten = false; last = 0; cut = 0; floor = 0; size = 1024; entries = []; gate = 64 })
-unfolding parse_open number_at spelling body frame appended_walk descriptor_fields
+unfolding parse_open number_at spelling entry_at bounded_at reading.number_at byte_at body_at body_behind body frame appended_walk descriptor_fields
 no_entries = refl
 
 cut_descriptor : parse id (take 63 head) ≡ Damaged 63
-unfolding parse_open number_at spelling body frame appended_walk descriptor_fields
+unfolding parse_open number_at spelling entry_at bounded_at reading.number_at byte_at body_at body_behind body frame appended_walk descriptor_fields
 cut_descriptor = refl
 
 -- a file that ends in place of a gate
 no_gate : parse id (take 86 file) ≡ Damaged 86
-unfolding parse_open number_at spelling body frame appended_walk descriptor_fields
+unfolding parse_open number_at spelling entry_at bounded_at reading.number_at byte_at body_at body_behind body frame appended_walk descriptor_fields
 no_gate = refl
 
 cut_body : parse id (take 80 file) ≡ Damaged 80
-unfolding parse_open number_at spelling body frame appended_walk descriptor_fields
+unfolding parse_open number_at spelling entry_at bounded_at reading.number_at byte_at body_at body_behind body frame appended_walk descriptor_fields
 cut_body = refl
 
 wrong_index : parse id (head ++ open_frame (tick 2 1) ++ (0 ∷ [])) ≡ Damaged 69
-unfolding parse_open number_at spelling body frame appended_walk descriptor_fields
+unfolding parse_open number_at spelling entry_at bounded_at reading.number_at byte_at body_at body_behind body frame appended_walk descriptor_fields
 wrong_index = refl
 
 wrong_mark : parse id (take 5 file ++ 0 ∷ drop 6 file) ≡ Damaged 4
-unfolding parse_open number_at spelling body frame appended_walk descriptor_fields
+unfolding parse_open number_at spelling entry_at bounded_at reading.number_at byte_at body_at body_behind body frame appended_walk descriptor_fields
 wrong_mark = refl
 
 -- a file that a compaction wrote
 rewritten : parse id (take 2 file ++ 1 ∷ drop 3 file) ≡ Damaged 2
-unfolding parse_open number_at spelling body frame appended_walk descriptor_fields
+unfolding parse_open number_at spelling entry_at bounded_at reading.number_at byte_at body_at body_behind body frame appended_walk descriptor_fields
 rewritten = refl
 
-two_entries : parse id (head ++ (1 ∷ 0 ∷ 0 ∷ 0 ∷ 34 ∷ []) ++ tick 1 1 ++ tick 2 1 ++ (0 ∷ [])) ≡ Damaged 86
-unfolding parse_open number_at spelling body frame appended_walk descriptor_fields
+-- a frame of two entries
+two_entries : parse id (head ++ (1 ∷ 0 ∷ 0 ∷ 0 ∷ 34 ∷ []) ++ tick 1 1 ++ tick 2 1 ++ (0 ∷ []))
+    ≡ Whole (record { id = id; rewritten = false; last = 2; cut = 0; floor = 0; size = 1024; entries = (1, tick_at 1) ∷ (2, tick_at 1) ∷ []; gate = 103 })
+unfolding parse_open number_at spelling entry_at bounded_at reading.number_at byte_at body_at body_behind body frame appended_walk descriptor_fields
 two_entries = refl
+
+-- an entry that isn't built yet: a register
+unbuilt : parse id (head ++ (1 ∷ 0 ∷ 0 ∷ 0 ∷ 25 ∷ []) ++ eight 1 ++ eight 1 ++ (1 ∷ eight 9) ++ (0 ∷ [])) ≡ Damaged 69
+unfolding parse_open number_at spelling entry_at bounded_at reading.number_at byte_at body_at body_behind body frame appended_walk descriptor_fields
+unbuilt = refl
 
 closed : parse id (0 ∷ drop 1 file) ≡ Closed
 closed = refl

@@ -1,45 +1,89 @@
 -- What the bytes of a frame and of a descriptor are read as.
-use Rattle.std.proofs.Common.{◌≡◌, ℕ, ◌+◌, ◌-◌, ◌<◌, ◌≤◌, ◌^◌, false, List, [], ◌∷◌, ◌++◌, length, drop, None, refl, sym, ap, ◌∙◌, arith, length-append}
+use Rattle.std.proofs.Common.{◌≡◌, ℕ, ◌+◌, ◌-◌, ◌≤◌, Bool, true, false, ◌&&◌, nat_eq, nat_le, List, [], ◌∷◌, ◌++◌, length, drop, None, refl, ap, ◌∙◌, arith, if◌then◌else◌, append_assoc, length-append}
+use Rattle.std.proofs.lemmas.List.{append-nil, drop_all, take_all, take-append-le}
+use Rattle.std.specs.Int.{w32, to_be_bytes}
 use Rattle.std.proofs.lemmas.Bool.{and_from, eq-eqb, le-leb}
 use Rattle.std.proofs.lemmas.Nat.{from_be_bytes-to_be_bytes_4, from_be_bytes-to_be_bytes_8}
 use Rattle.disk_model.specs.Image.{IsFileId}
 use Rattle.disk_model.specs.declared.file_id.FileId.{FileId}
 use Rattle.segment_files.specs.declared.descriptor.Descriptor.{Descriptor}
-use Rattle.segment_files.specs.Spelling.{Four, Eight, number_at, tick_at}
-use Rattle.segment_files.specs.Parse.{Framed, Whole, frame, frame_room, is_next, last_limit, mark, parse, appended_part, descriptor_fields, first_wrong}
-use Rattle.segment_files.specs.Contents.{appended_descriptor, descriptor_bytes, frame_bytes}
+use Rattle.host_types.specs.Limits.{last_limit}
+use Rattle.host_types.specs.declared.entry.Entry.{Entry}
+use Rattle.entry_codec.specs.Spelled.{spelled}
+use Rattle.entry_codec.specs.Reading.{Spelling, Spells, spelling}
+use Rattle.segment_files.specs.Numbers.{Four, Eight, number_at}
+use Rattle.segment_files.specs.Parse.{Numbered, Holds, Breaks, with_entry, first_of, body, Framed, Whole, frame, frame_room, is_built, is_next, mark, parse, appended_part, descriptor_fields, first_wrong}
+use Rattle.segment_files.specs.Contents.{appended_descriptor, descriptor_bytes, body_bytes, frame_bytes}
 use Rattle.segment_files.proofs.Descriptors.{right}
-use Rattle.segment_files.proofs.Framing.{tick_framed}
+use Rattle.segment_files.proofs.Bodies.{body_more, body_end}
+use Rattle.segment_files.proofs.Framing.{form, form_whole, frame_form, body_in, size_fits}
 use Rattle.segment_files.proofs.Scanning.{good_head}
 use Rattle.segment_files.proofs.Walks.{walk_shut}
 
--- A FRAME with one tick
+-- A FRAME with one entry
 
-pub length-frame_bytes : (index time : ℕ) → length (frame_bytes index (tick_at time)) ≡ 22
-length-frame_bytes index time = refl
+-- what the entry has to be, that it is read back behind this index
+pub record Follows (before index : ℕ) (entry : Entry) : Type 0 where
+  pub next : index ≡ before + 1
+  pub low : index ≤ last_limit
+  pub built : is_built entry.body ≡ true
+  pub spells : spelling (spelled index entry) ≡ Spells index entry (length (spelled index entry))
+  pub least : 17 ≤ length (spelled index entry)
+  pub most : length (spelled index entry) ≤ 131072
 
-module _ (before index time : ℕ) (next : index ≡ before + 1) (low : index ≤ last_limit) (time_fits : time < 2 ^ 64) (rest : List ℕ) where
-  abbrev behind : List ℕ
-  behind = drop 1 (frame_bytes index (tick_at time)) ++ rest
+module _ (before index : ℕ) (entry : Entry) (f : Follows before index entry) where
+  abbrev bytes : List ℕ
+  bytes = spelled index entry
 
-  size_read : number_at Four 0 behind ≡ 17
-  unfolding number_at
-  size_read = from_be_bytes-to_be_bytes_4 17 (omega arith)
+  abbrev one : Numbered
+  one = (index, entry) ∷ []
 
-  index_read : number_at Eight 4 behind ≡ index
-  unfolding number_at
-  index_read = from_be_bytes-to_be_bytes_8 index (omega (arith, low))
+  body_is : body_bytes one ≡ bytes
+  body_is = append-nil bytes
 
-  time_read : number_at Eight 12 behind ≡ time
-  unfolding number_at
-  time_read = from_be_bytes-to_be_bytes_8 time time_fits
+  -- its length behind its gate
+  abbrev long : ℕ
+  long = 4 + length bytes
 
-  -- it is read back, whatever stands behind it
-  pub frame_read : frame is_next frame_room before (drop 1 (frame_bytes index (tick_at time)) ++ rest) ≡ Framed ((index, tick_at time) ∷ []) 21
-  frame_read =
-      tick_framed before behind (record { long = omega arith; size = size_read; index = index_read ∙ next; last = omega (arith, next, low); tag = refl })
-      ∙ ap (λ (k : ℕ). Framed ((k, tick_at (number_at Eight 12 behind)) ∷ []) 21) (sym next)
-      ∙ ap (λ (k : ℕ). Framed ((index, tick_at k) ∷ []) 21) time_read
+  pub length-one_frame : length (frame_bytes one) ≡ 1 + long
+  length-one_frame = omega (arith, ap length body_is)
+
+  fit : is_next before index entry ≡ true
+  fit = and_from (nat_eq index (before + 1)) (nat_le index last_limit && is_built entry.body) (eq-eqb index (before + 1) f.next) (and_from (nat_le index last_limit) (is_built entry.body) (le-leb index last_limit f.low) f.built)
+
+  body_read : body is_next frame_room before bytes ≡ Holds one
+  body_read =
+      body_more is_next 63 before bytes (let least = f.least in omega arith)
+      ∙ ap (λ (s : Spelling). first_of is_next before s (λ index size. body is_next 63 index (drop size bytes))) f.spells
+      ∙ ap (λ (t : Bool). if t then with_entry index entry (length bytes) (body is_next 63 index (drop (length bytes) bytes)) else Breaks 0) fit
+      ∙ ap (λ (l : List ℕ). with_entry index entry (length bytes) (body is_next 63 index l)) (drop_all (length bytes) bytes (omega arith))
+      ∙ ap (with_entry index entry (length bytes)) (body_end is_next 63 index)
+
+  module _ (rest : List ℕ) where
+    abbrev behind : List ℕ
+    behind = to_be_bytes w32 (length bytes) ++ bytes ++ rest
+
+    behind_is : drop 1 (frame_bytes one) ++ rest ≡ behind
+    behind_is =
+        ap (λ (l : List ℕ). (to_be_bytes w32 (length l) ++ l) ++ rest) body_is
+        ∙ append_assoc (to_be_bytes w32 (length bytes)) bytes rest
+
+    size_read : number_at Four 0 behind ≡ length bytes
+    unfolding number_at
+    size_read = from_be_bytes-to_be_bytes_4 (length bytes) (let most = f.most in omega arith)
+
+    -- it is read back, whatever stands behind it
+    pub frame_read : frame is_next frame_room before (drop 1 (frame_bytes one) ++ rest) ≡ Framed one long
+    frame_read =
+        let most = f.most in
+        let least = f.least in
+        let there : 4 + length bytes ≤ length behind = omega (arith, length-append bytes rest) in
+        ap (frame is_next frame_room before) behind_is
+        ∙ frame_form before behind
+        ∙ ap (λ (k : ℕ). form k (length behind) (body_in before k behind)) size_read
+        ∙ ap (λ (l : List ℕ). form (length bytes) (length behind) (body is_next frame_room before l)) (take-append-le (length bytes) bytes rest (omega arith) ∙ take_all (length bytes) bytes (omega arith))
+        ∙ ap (form (length bytes) (length behind)) body_read
+        ∙ form_whole (length bytes) (length behind) one there (size_fits (length bytes) least (omega (arith, most)))
 
 -- A DESCRIPTOR
 

@@ -6,7 +6,8 @@ pub mod Settling
 pub mod Descriptors
 pub mod Framing
 pub mod Walks
-pub mod Spelled
+pub mod Writing
+pub mod Bodies
 pub mod Looking
 pub mod Scanning
 pub mod Wholes

@@ -4,8 +4,8 @@ use Rattle.std.proofs.lemmas.List.{append-nil, drop-drop, drop_all, take_all, ge
 use Rattle.std.proofs.lemmas.Bool.{and_from, eq-eqb, le-leb}
 use Rattle.disk_model.specs.declared.file_id.FileId.{FileId}
 use Rattle.disk_model.specs.Calls.{ReadsInto}
-use Rattle.segment_files.specs.declared.frames.Walked.{Walked}
-use Rattle.segment_files.specs.declared.frames.Walked.TheVariants.{Gate, Rest, Damaged as Is_damaged}
+use Rattle.segment_files.specs.declared.windows.Walked.{Walked}
+use Rattle.segment_files.specs.declared.windows.Walked.TheVariants.{Gate, Rest, Damaged as Is_damaged}
 use Rattle.segment_files.specs.declared.reading.Frames.TheVariants.{End}
 use Rattle.segment_files.specs.Files.{is_open}
 use Rattle.segment_files.specs.Parse.{Numbered, Found, Closed, Walk, Ends, Fails, appended_walk, appended_part, described, descriptor_fields, first_wrong, parse, parse_open}
@@ -47,9 +47,9 @@ module _ (id : FileId) (bytes : List ℕ) (is : is_open bytes ≡ true) where
 
 -- A PIECE
 
-pub piece : (bytes old_window window : List ℕ) (at end n before : ℕ) (old new : Numbered) (walked : Walked) → end ≡ length bytes → at < end → length old_window ≡ length window → length old_window ≤ n
-    → (length window < 22 → length window ≡ end - at) → ReadsInto bytes at old_window window n → ReadsWindow window before old new walked → ReadsPiece (drop at bytes) before old new walked
-piece bytes old_window window at end n before old new walked end_is within same full last reads r =
+pub piece : (bytes old_window window : List ℕ) (at end n most before : ℕ) (old new : Numbered) (walked : Walked) → end ≡ length bytes → at < end → length old_window ≡ length window → length old_window ≤ n
+    → (end - at ≤ most → length window ≡ end - at) → ReadsInto bytes at old_window window n → ReadsWindow window before old new walked → ReadsPiece (drop at bytes) most before old new walked
+piece bytes old_window window at end n most before old new walked end_is within same full last reads r =
     let n_is : n ≡ length window = omega (arith, full, same, reads.count) in
     let front : window ≡ take (length window) (drop at bytes) =
     sym (take_all (length window) window (omega arith)) ∙ subst (λ (k : ℕ). take k window ≡ take k (drop at bytes)) n_is reads.front in
@@ -59,8 +59,8 @@ piece bytes old_window window at end n before old new walked end_is within same 
       more = r.more;
       items = r.items;
       walk = subst (λ (l : List ℕ). IsWalked l before r.more walked) (sym whole) (r.walk rest);
-      stuck = λ is.
-          let size = last (r.less is) in
+      stuck = λ short is.
+          let size = last (omega (arith, short, end_is, length-drop at bytes)) in
           let none : rest ≡ [] = drop_all (length window) (drop at bytes) (omega (arith, size, end_is, length-drop at bytes)) in
           let all : drop at bytes ≡ window = whole ∙ ap (λ (l : List ℕ). window ++ l) none ∙ append-nil window in
           subst (λ (l : List ℕ). IsFailing (appended_walk 0 before l)) (sym all) (r.stuck is);
@@ -90,21 +90,22 @@ module _ (bytes : List ℕ) (before : ℕ) (old new : Numbered) (at : ℕ) (scan
   failing : IsFailing (appended_walk 0 (before + length old) (drop at bytes)) → IsFailing (appended_walk 0 before (drop 64 bytes))
   failing fails = subst (λ (w : Walk). IsFailing w) (sym scanned.walk) (extended_fails old (at - 64) (appended_walk 0 (before + length old) (drop at bytes)) fails)
 
-  pub scanned_bad : ReadsPiece (drop at bytes) (before + length old) old new Is_damaged → IsFailing (appended_walk 0 before (drop 64 bytes))
-  scanned_bad r = failing r.walk
+  pub scanned_bad : (most : ℕ) → ReadsPiece (drop at bytes) most (before + length old) old new Is_damaged → IsFailing (appended_walk 0 before (drop 64 bytes))
+  scanned_bad most r = failing r.walk
 
-  pub scanned_stuck : ReadsPiece (drop at bytes) (before + length old) old new (Rest 0) → IsFailing (appended_walk 0 before (drop 64 bytes))
-  scanned_stuck r = failing (r.stuck refl)
+  -- all that is left is at hand, and no frame
+  pub scanned_stuck : (most : ℕ) → length bytes - at ≤ most → ReadsPiece (drop at bytes) most (before + length old) old new (Rest 0) → IsFailing (appended_walk 0 before (drop 64 bytes))
+  scanned_stuck most short r = failing (r.stuck (omega (arith, short, length-drop at bytes)) refl)
 
-  pub scanned_gate : (behind : ℕ) → ReadsPiece (drop at bytes) (before + length old) old new (Gate behind) → HasFrames bytes before new (End (at + behind))
-  scanned_gate behind r =
+  pub scanned_gate : (most behind : ℕ) → ReadsPiece (drop at bytes) most (before + length old) old new (Gate behind) → HasFrames bytes before new (End (at + behind))
+  scanned_gate most behind r =
       let place : at - 64 + behind ≡ at + behind - 64 = omega (arith, scanned.start) in (
         omega (arith, scanned.start),
         scanned.walk ∙ ap (extended old (at - 64)) r.walk ∙ ap (λ (l : Numbered). Ends l (at - 64 + behind)) (sym r.items) ∙ ap (λ (k : ℕ). Ends new k) place,
       )
 
-  pub scanned_more : (behind : ℕ) → ReadsPiece (drop at bytes) (before + length old) old new (Rest behind) → ScannedTo bytes before new (at + behind)
-  scanned_more behind r =
+  pub scanned_more : (most behind : ℕ) → ReadsPiece (drop at bytes) most (before + length old) old new (Rest behind) → ScannedTo bytes before new (at + behind)
+  scanned_more most behind r =
       let place : at - 64 + behind ≡ at + behind - 64 = omega (arith, scanned.start) in
       let count : before + length old + length r.more ≡ before + length new = omega (arith, ap length r.items, length-append old r.more) in
       let further = appended_walk 0 (before + length old + length r.more) (drop behind (drop at bytes)) in

@@ -1,12 +1,12 @@
 -- How the walk over the frames goes on, from one frame to the next.
-use Rattle.std.proofs.Common.{◌≡◌, ℕ, suc, ◌+◌, ◌<◌, ◌≤◌, Bool, false, nat_eq, List, [], ◌∷◌, ◌++◌, length, take, drop, get_or, refl, sym, ap, subst, ◌∙◌, arith, if◌then◌else◌, append_assoc, length-append, length-take, length-drop, take-append-drop}
-use Rattle.std.proofs.lemmas.List.{append-nil, drop-drop, drop_more, drop-append-le}
+use Rattle.std.proofs.Common.{◌≡◌, ℕ, zero, suc, ◌+◌, ◌-◌, ◌*◌, ◌<◌, ◌≤◌, Bool, false, nat_eq, List, [], ◌∷◌, ◌++◌, length, take, drop, get_or, refl, sym, ap, subst, ◌∙◌, arith, if◌then◌else◌, append_assoc, length-append, length-drop}
+use Rattle.std.proofs.lemmas.List.{append-nil, drop-drop, drop_more, drop-append-le, drop_all, take_all}
 use Rattle.std.proofs.lemmas.Bool.{ne_eqb}
-use Rattle.host_types.specs.declared.entry.Entry.{Entry}
-use Rattle.segment_files.specs.declared.frames.Walked.TheVariants.{Gate, Rest, Damaged as Is_damaged}
+use Rattle.segment_files.specs.declared.windows.Walked.TheVariants.{Gate, Rest, Damaged as Is_damaged}
+use Rattle.segment_files.specs.declared.windows.FrameRead.{FrameRead}
+use Rattle.segment_files.specs.declared.windows.FrameRead.TheVariants.{Whole as Is_whole, Cut as Is_cut, Damaged as Is_no_frame}
 use Rattle.segment_files.specs.Parse.{Numbered, Frame, Framed, Crooked, frame, frame_room, is_next, Walk, Ends, Fails, behind_byte, behind_frame, go_on, appended_walk}
-use Rattle.segment_files.specs.Contents.{IsCrooked, IsFailing, IsFrameOf, IsNoFrame, extended, ReadsWindow}
-use Rattle.segment_files.proofs.Framing.{crooked}
+use Rattle.segment_files.specs.Contents.{IsCrooked, IsFailing, extended, frame_limit, ReadsFrame, ReadsWindow}
 
 pub extended_none : (w : Walk) → w ≡ extended [] 0 w
 extended_none (Ends es g) = ap (λ (k : ℕ). Ends es k) (omega arith)
@@ -46,20 +46,19 @@ unfolding appended_walk
 walk_none before = refl
 
 -- bytes that are passed
-pass : (fb : List ℕ) (before : ℕ) (rest : List ℕ) → appended_walk (length fb) before (fb ++ rest) ≡ extended [] (length fb) (appended_walk 0 before rest)
-pass [] before rest = extended_none (appended_walk 0 before rest)
-pass (b ∷ fb) before rest = walk_skip (length fb) before b (fb ++ rest) ∙ ap behind_byte (pass fb before rest) ∙ extended_byte [] (length fb) (appended_walk 0 before rest)
+pass : (size before : ℕ) (l : List ℕ) → size ≤ length l → appended_walk size before l ≡ extended [] size (appended_walk 0 before (drop size l))
+pass zero before l le = extended_none (appended_walk 0 before l)
+pass (suc size) before [] le = absurd (omega arith)
+pass (suc size) before (b ∷ l) le = walk_skip size before b l ∙ ap behind_byte (pass size before l (omega arith)) ∙ extended_byte [] size (appended_walk 0 before (drop size l))
 
 -- over one whole frame
-pub one_frame : (before : ℕ) (entry : Entry) (behind rest : List ℕ) → length behind ≡ 21 → frame is_next frame_room before (behind ++ rest) ≡ Framed ((before + 1, entry) ∷ []) 21
-    → appended_walk 0 before (1 ∷ (behind ++ rest)) ≡ extended ((before + 1, entry) ∷ []) 22 (appended_walk 0 (before + 1) rest)
-one_frame before entry behind rest long is =
-    walk_open before (behind ++ rest)
-    ∙ ap (λ (f : Frame). go_on f (λ entries size. appended_walk size (before + length entries) (behind ++ rest))) is
-    ∙ ap (λ (k : ℕ). behind_frame ((before + 1, entry) ∷ []) (appended_walk k (before + 1) (behind ++ rest))) (sym long)
-    ∙ ap (behind_frame ((before + 1, entry) ∷ [])) (pass behind (before + 1) rest)
-    ∙ extended_frame ((before + 1, entry) ∷ []) (length behind) (appended_walk 0 (before + 1) rest)
-    ∙ ap (λ (k : ℕ). extended ((before + 1, entry) ∷ []) (suc k) (appended_walk 0 (before + 1) rest)) long
+pub one_frame : (before size : ℕ) (es : Numbered) (l : List ℕ) → size ≤ length l → frame is_next frame_room before l ≡ Framed es size
+    → appended_walk 0 before (1 ∷ l) ≡ extended es (suc size) (appended_walk 0 (before + length es) (drop size l))
+one_frame before size es l le is =
+    walk_open before l
+    ∙ ap (λ (f : Frame). go_on f (λ entries size. appended_walk size (before + length entries) l)) is
+    ∙ ap (behind_frame es) (pass size (before + length es) l le)
+    ∙ extended_frame es size (appended_walk 0 (before + length es) (drop size l))
 
 -- behind an open gate that no frame follows
 pub no_frame : (before : ℕ) (l : List ℕ) → IsCrooked (frame is_next frame_room before l) → IsFailing (appended_walk 0 before (1 ∷ l))
@@ -69,12 +68,11 @@ no_frame before l bad = subst (λ (w : Walk). IsFailing w) (sym (walk_open befor
     by (Framed es n) bad = absurd bad
     by (Crooked p) bad = tt
 
--- fewer bytes than a frame has, behind an open gate if there are any
-pub too_short : (before : ℕ) (l : List ℕ) → length l < 22 → (0 < length l → get_or l 0 0 ≡ 1) → IsFailing (appended_walk 0 before l)
-too_short before [] short gate = subst (λ (w : Walk). IsFailing w) (sym (walk_none before)) tt
-too_short before (b ∷ l) short gate =
-    let one : b ≡ 1 = gate (omega arith) in
-    subst (λ (x : ℕ). IsFailing (appended_walk 0 before (x ∷ l))) (sym one) (no_frame before l (crooked before l (λ is. omega (arith, is.long, short))))
+-- nothing at all
+stuck_none : (window : List ℕ) (before : ℕ) → length window ≤ 0 → IsFailing (appended_walk 0 before window)
+stuck_none window before le =
+    let none : window ≡ [] = drop_all 0 window le in
+    subst (λ (w : Walk). IsFailing w) (sym (ap (appended_walk 0 before) none ∙ walk_none before)) tt
 
 -- THE WINDOW, as far as it was read: whole frames.
 pub record Passed (window : List ℕ) (before : ℕ) (old new : Numbered) (at : ℕ) : Type 0 where
@@ -96,34 +94,18 @@ module _ (window : List ℕ) (before : ℕ) (old new : Numbered) (at : ℕ) (pas
   abbrev now : ℕ
   now = before + length passed.more
 
-  pub counted : before + length passed.more + length old ≡ before + length new
-  counted = omega (arith, ap length passed.items, length-append old passed.more)
+  abbrev behind : List ℕ
+  behind = drop (at + 1) window
 
-  at_gate : (b : ℕ) → at < length window → get_or window at 0 ≡ b → drop at window ≡ b ∷ drop (at + 1) window
-  at_gate b lt is = drop_more window at 0 lt ∙ ap (λ (x : ℕ). x ∷ drop (at + 1) window) is
+  counted : (k : ℕ) → k + length old ≡ before + length new → k ≡ now
+  counted k k_is = omega (arith, k_is, ap length passed.items, length-append old passed.more)
 
-  passed_one : (behind : List ℕ) (entry : Entry) → at + 22 ≤ length window → get_or window at 0 ≡ 1 → behind ≡ take 21 (drop (at + 1) window)
-      → IsFrameOf (before + length passed.more) behind entry → Passed window before old (new ++ (before + length passed.more + 1, entry) ∷ []) (at + 22)
-  passed_one behind entry room opened behind_is framed =
-      let es : Numbered = (now + 1, entry) ∷ [] in
-      let long : length behind ≡ 21 = ap length behind_is ∙ omega (arith, length-take 21 (drop (at + 1) window), length-drop (at + 1) window, room) in
-      let parts : drop (at + 1) window ≡ behind ++ drop (at + 22) window =
-      sym (take-append-drop 21 (drop (at + 1) window))
-      ∙ ap (λ (l : List ℕ). l ++ drop 21 (drop (at + 1) window)) (sym behind_is)
-      ∙ ap (λ (l : List ℕ). behind ++ l) (drop-drop 21 (at + 1) window ∙ ap (λ (k : ℕ). drop k window) (omega arith)) in
-      let gate : drop at window ≡ 1 ∷ (behind ++ drop (at + 22) window) = at_gate 1 (omega (arith, room)) opened ∙ ap (λ (l : List ℕ). 1 ∷ l) parts in
-      record {
-        more = passed.more ++ es;
-        items = ap (λ (l : Numbered). l ++ es) passed.items ∙ append_assoc old passed.more es;
-        within = room;
-        walk = λ rest.
-            passed.walk rest
-            ∙ ap (λ (l : List ℕ). extended passed.more at (appended_walk 0 now (l ++ rest))) gate
-            ∙ ap (λ (l : List ℕ). extended passed.more at (appended_walk 0 now (1 ∷ l))) (append_assoc behind (drop (at + 22) window) rest)
-            ∙ ap (extended passed.more at) (one_frame now entry behind (drop (at + 22) window ++ rest) long (framed (drop (at + 22) window ++ rest)))
-            ∙ extended_more passed.more es at 22 (appended_walk 0 (now + 1) (drop (at + 22) window ++ rest))
-            ∙ ap (λ (k : ℕ). extended (passed.more ++ es) (at + 22) (appended_walk 0 k (drop (at + 22) window ++ rest))) (omega (arith, length-append passed.more es));
-      }
+  at_gate : (b : ℕ) → at < length window → get_or window at 0 ≡ b → drop at window ≡ b ∷ behind
+  at_gate b lt is = drop_more window at 0 lt ∙ ap (λ (x : ℕ). x ∷ behind) is
+
+  -- the walk from the open gate that was come to
+  from_gate : at < length window → get_or window at 0 ≡ 1 → (rest : List ℕ) → appended_walk 0 before (window ++ rest) ≡ extended passed.more at (appended_walk 0 now (1 ∷ (behind ++ rest)))
+  from_gate lt opened rest = passed.walk rest ∙ ap (λ (l : List ℕ). extended passed.more at (appended_walk 0 now (l ++ rest))) (at_gate 1 lt opened)
 
   -- a gate that isn't open
   pub ends : at < length window → (get_or window at 0 ≡ 1 → ⊥) → ReadsWindow window before old new (Gate at)
@@ -136,56 +118,86 @@ module _ (window : List ℕ) (before : ℕ) (old new : Numbered) (at : ℕ) (pas
         walk = λ rest.
             passed.walk rest
             ∙ ap (λ (l : List ℕ). extended passed.more at (appended_walk 0 now (l ++ rest))) (at_gate b lt refl)
-            ∙ ap (extended passed.more at) (walk_shut now b (drop (at + 1) window ++ rest) (ne_eqb b 1 shut))
+            ∙ ap (extended passed.more at) (walk_shut now b (behind ++ rest) (ne_eqb b 1 shut))
             ∙ ap (λ (l : Numbered). Ends l (at + 0)) (append-nil passed.more)
             ∙ ap (λ (k : ℕ). Ends passed.more k) (omega arith);
         stuck = λ is. absurd (cc);
-        less = λ is. absurd (cc);
       }
 
-  -- a frame that isn't right
-  breaks : (behind : List ℕ) → at + 22 ≤ length window → get_or window at 0 ≡ 1 → behind ≡ take 21 (drop (at + 1) window) → IsNoFrame (before + length passed.more) behind → ReadsWindow window before old new Is_damaged
-  breaks behind room opened behind_is none =
-      let parts : drop (at + 1) window ≡ behind ++ drop 21 (drop (at + 1) window) =
-      sym (take-append-drop 21 (drop (at + 1) window)) ∙ ap (λ (l : List ℕ). l ++ drop 21 (drop (at + 1) window)) (sym behind_is) in
-      let gate : drop at window ≡ 1 ∷ (behind ++ drop 21 (drop (at + 1) window)) = at_gate 1 (omega (arith, room)) opened ∙ ap (λ (l : List ℕ). 1 ∷ l) parts in
-      let after = drop 21 (drop (at + 1) window) in
-      record {
-        more = passed.more;
-        items = passed.items;
-        within = tt;
-        walk = λ rest.
-            let fails : IsFailing (appended_walk 0 now (1 ∷ (behind ++ (after ++ rest)))) = no_frame now (behind ++ (after ++ rest)) (none (after ++ rest)) in
-            let whole : appended_walk 0 before (window ++ rest) ≡ extended passed.more at (appended_walk 0 now (1 ∷ (behind ++ (after ++ rest)))) =
-            passed.walk rest
-            ∙ ap (λ (l : List ℕ). extended passed.more at (appended_walk 0 now (l ++ rest))) gate
-            ∙ ap (λ (l : List ℕ). extended passed.more at (appended_walk 0 now (1 ∷ l))) (append_assoc behind after rest) in
-            subst (λ (w : Walk). IsFailing w) (sym whole) (extended_fails passed.more at (appended_walk 0 now (1 ∷ (behind ++ (after ++ rest)))) fails);
-        stuck = λ is. absurd (cc);
-        less = λ is. absurd (cc);
-      }
-
-  -- the end, or less than a frame
-  pub rests : length window < at + 22 → (at < length window → get_or window at 0 ≡ 1) → ReadsWindow window before old new (Rest at)
-  rests short opened = record {
+  -- the end
+  pub ends_all : length window ≤ at → ReadsWindow window before old new (Rest at)
+  ends_all le = record {
     more = passed.more;
     items = passed.items;
     within = passed.within;
     walk = λ rest. passed.walk rest ∙ ap (λ (l : List ℕ). extended passed.more at (appended_walk 0 now l)) (sym (drop-append-le at window rest passed.within));
-    stuck = λ is. let none : at ≡ 0 = cc in too_short before window (omega (arith, none, short)) (λ some. subst (λ (k : ℕ). get_or window k 0 ≡ 1) none (opened (omega (arith, none, some))));
-    less = λ is. let none : at ≡ 0 = cc in omega (arith, none, short);
+    stuck = λ is. let none : at ≡ 0 = cc in stuck_none window before (omega (arith, none, le));
   }
 
-  -- the same two, where the index before is known by another sum
-  pub passed_at : (k : ℕ) (behind : List ℕ) (entry : Entry) → k + length old ≡ before + length new → at + 22 ≤ length window → get_or window at 0 ≡ 1 → behind ≡ take 21 (drop (at + 1) window)
-      → IsFrameOf k behind entry → Passed window before old (new ++ (k + 1, entry) ∷ []) (at + 22)
-  passed_at k behind entry k_is room opened behind_is framed =
-      let same : k ≡ now = omega (arith, k_is, counted) in
-      subst (λ (j : ℕ). Passed window before old (new ++ (j + 1, entry) ∷ []) (at + 22)) (sym same)
-      (passed_one behind entry room opened behind_is (subst (λ (j : ℕ). IsFrameOf j behind entry) same framed))
+  module _ (lt : at < length window) (opened : get_or window at 0 ≡ 1) (k : ℕ) (k_is : k + length old ≡ before + length new) (next : Numbered) where
+    -- a frame
+    pub passed_frame : (size : ℕ) → ReadsFrame behind k new next (Is_whole size) → Passed window before old next (at + (1 + size))
+    passed_frame size r =
+        let es = r.more in
+        let long = r.is.1 in
+        let framed : (rest : List ℕ) → frame is_next frame_room now (behind ++ rest) ≡ Framed es size =
+        λ rest. subst (λ (j : ℕ). frame is_next frame_room j (behind ++ rest) ≡ Framed es size) (counted k k_is) (r.is.0 rest) in
+        record {
+          more = passed.more ++ es;
+          items = r.items ∙ ap (λ (l : Numbered). l ++ es) passed.items ∙ append_assoc old passed.more es;
+          within = omega (arith, long, length-drop (at + 1) window, lt);
+          walk = λ rest.
+              from_gate lt opened rest
+              ∙ ap (extended passed.more at) (one_frame now size es (behind ++ rest) (omega (arith, long, length-append behind rest)) (framed rest))
+              ∙ extended_more passed.more es at (suc size) (appended_walk 0 (now + length es) (drop size (behind ++ rest)))
+              ∙ ap (λ (l : List ℕ). extended (passed.more ++ es) (at + suc size) (appended_walk 0 (now + length es) l))
+              (drop-append-le size behind rest long ∙ ap (λ (l : List ℕ). l ++ rest) (drop-drop size (at + 1) window ∙ ap (λ (j : ℕ). drop j window) (omega arith)))
+              ∙ ap (λ (j : ℕ). extended (passed.more ++ es) (at + suc size) (appended_walk 0 j (drop (at + (1 + size)) window ++ rest))) (omega (arith, length-append passed.more es))
+              ∙ ap (λ (j : ℕ). extended (passed.more ++ es) j (appended_walk 0 (before + length (passed.more ++ es)) (drop (at + (1 + size)) window ++ rest))) (omega arith);
+        }
 
-  pub breaks_at : (k : ℕ) (behind : List ℕ) → k + length old ≡ before + length new → at + 22 ≤ length window → get_or window at 0 ≡ 1 → behind ≡ take 21 (drop (at + 1) window)
-      → IsNoFrame k behind → ReadsWindow window before old new Is_damaged
-  breaks_at k behind k_is room opened behind_is none =
-      let same : k ≡ now = omega (arith, k_is, counted) in
-      breaks behind room opened behind_is (subst (λ (j : ℕ). IsNoFrame j behind) same none)
+    pub passed_measured : (size : ℕ) → ReadsFrame behind k new next (Is_whole size) → at + frame_limit * length old ≤ frame_limit * length new → at + (1 + size) + frame_limit * length old ≤ frame_limit * length next
+    passed_measured size r so_far =
+        let short = r.is.2 in
+        let some = r.is.3 in
+        let count : length next ≡ length new + length r.more = ap length r.items ∙ length-append new r.more in
+        omega (arith, short, some, count, so_far)
+
+    -- too little of a frame
+    pub rests : ReadsFrame behind k new next Is_cut → ReadsWindow window before old next (Rest at)
+    rests r =
+        let same : next ≡ old ++ passed.more = r.items ∙ ap (λ (l : Numbered). new ++ l) r.is.0 ∙ append-nil new ∙ passed.items in
+        record {
+          more = passed.more;
+          items = same;
+          within = passed.within;
+          walk = λ rest. passed.walk rest ∙ ap (λ (l : List ℕ). extended passed.more at (appended_walk 0 now l)) (sym (drop-append-le at window rest passed.within));
+          stuck = λ is.
+              let crooked : IsCrooked (frame is_next frame_room now behind) = subst (λ (j : ℕ). IsCrooked (frame is_next frame_room j behind)) (counted k k_is) r.is.1 in
+              let fails : IsFailing (extended passed.more at (appended_walk 0 now (1 ∷ behind))) = extended_fails passed.more at (appended_walk 0 now (1 ∷ behind)) (no_frame now behind crooked) in
+              let whole : appended_walk 0 before window ≡ extended passed.more at (appended_walk 0 now (1 ∷ behind)) =
+              ap (appended_walk 0 before) (sym (append-nil window)) ∙ from_gate lt opened [] ∙ ap (λ (l : List ℕ). extended passed.more at (appended_walk 0 now (1 ∷ l))) (append-nil behind) in
+              subst (λ (w : Walk). IsFailing w) (sym whole) fails;
+        }
+
+    pub rests_measured : ReadsFrame behind k new next Is_cut → at + frame_limit * length old ≤ frame_limit * length new → at + frame_limit * length old ≤ frame_limit * length next
+    rests_measured r so_far = omega (arith, so_far, ap length r.items, length-append new r.more)
+
+    -- a frame that isn't right
+    pub breaks : ReadsFrame behind k new next Is_no_frame → ReadsWindow window before old next Is_damaged
+    breaks r = record {
+      more = passed.more ++ r.more;
+      items = r.items ∙ ap (λ (l : Numbered). l ++ r.more) passed.items ∙ append_assoc old passed.more r.more;
+      within = tt;
+      walk = λ rest.
+          let crooked : IsCrooked (frame is_next frame_room now (behind ++ rest)) = subst (λ (j : ℕ). IsCrooked (frame is_next frame_room j (behind ++ rest))) (counted k k_is) (r.is rest) in
+          subst (λ (w : Walk). IsFailing w) (sym (from_gate lt opened rest)) (extended_fails passed.more at (appended_walk 0 now (1 ∷ (behind ++ rest))) (no_frame now (behind ++ rest) crooked));
+      stuck = λ is. absurd (cc);
+    }
+
+-- what was read of the window behind a gate
+pub frame_at : (window : List ℕ) (at k : ℕ) (old new : Numbered) (a b : FrameRead) → at < length window → a ≡ b
+    → ReadsFrame (take (length window - (at + 1)) (drop (at + 1) window)) k old new a → ReadsFrame (drop (at + 1) window) k old new b
+frame_at window at k old new a b lt is read =
+    subst (λ (l : List ℕ). ReadsFrame l k old new b) (take_all (length window - (at + 1)) (drop (at + 1) window) (omega (arith, length-drop (at + 1) window)))
+    (subst (λ (x : FrameRead). ReadsFrame (take (length window - (at + 1)) (drop (at + 1) window)) k old new x) is read)

@@ -7,7 +7,7 @@ use Rattle.segment_files.specs.declared.reading.FileFault.TheVariants.{Failed, N
 use Rattle.segment_files.specs.declared.reading.Contents.TheVariants.{Closed as Is_shut}
 use Rattle.segment_files.specs.declared.reading.Frames.TheVariants.{End}
 use Rattle.segment_files.specs.Files.{is_open}
-use Rattle.segment_files.specs.Spelling.{Four, number_at}
+use Rattle.segment_files.specs.Numbers.{Four, number_at}
 use Rattle.segment_files.specs.Parse.{Numbered, Part, Found, Whole, Walk, Ends, Fails, appended_walk, appended_part, described, descriptor_fields, first_wrong, parse}
 use Rattle.segment_files.specs.Contents.{appended_descriptor, IsDamage, IsFailing, HasFrames, IsContents, IsOpened, IsNoDamage, IsTrueFault, HasFileCause}
 use Rattle.segment_files.proofs.Scanning.{good_head, open_parse}

@@ -1,5 +1,6 @@
 -- What a scan answers of a file, beside what its bytes are.
-use Rattle.std.specs.Prelude.{◌≡◌, ◌<◌, ◌≤◌, ◌+◌, ◌-◌, ◌*◌, ℕ, Bool, true, false, List, [], ◌∷◌, ◌++◌, length, take, drop, Option, Some, None, Result, Ok, Err, IsErrOf}
+use Rattle.std.specs.Prelude.{◌≡◌, ◌<◌, ◌≤◌, ◌+◌, ◌-◌, ◌*◌, ℕ, Bool, true, false, List, [], ◌∷◌, ◌++◌, length, take, drop, Option, Some, None, Result, Ok, Err, IsErrOf, IsTrue}
+use Rattle.std.specs.List.{flat_map}
 use Rattle.std.specs.Int.{w32, w64, to_be_bytes}
 use Rattle.host_types.specs.declared.entry.Entry.{Entry}
 use Rattle.disk_model.specs.declared.disk.DiskFault.{DiskFault}
@@ -12,14 +13,19 @@ use Rattle.segment_files.specs.declared.reading.Contents.{Contents}
 use Rattle.segment_files.specs.declared.reading.Contents.TheVariants.{Closed as Is_shut, Open}
 use Rattle.segment_files.specs.declared.reading.Frames.{Frames}
 use Rattle.segment_files.specs.declared.reading.Frames.TheVariants.{End, Damaged as Are_damaged}
-use Rattle.segment_files.specs.declared.frames.Walked.{Walked}
-use Rattle.segment_files.specs.declared.frames.Walked.TheVariants.{Gate, Rest, Damaged as Is_damaged}
+use Rattle.segment_files.specs.declared.windows.Walked.{Walked}
+use Rattle.segment_files.specs.declared.windows.Walked.TheVariants.{Gate, Rest, Damaged as Is_damaged}
+use Rattle.segment_files.specs.declared.windows.FrameRead.{FrameRead}
+use Rattle.segment_files.specs.declared.windows.FrameRead.TheVariants.{Whole as Is_whole, Cut as Is_cut, Damaged as Is_no_frame}
 use Rattle.segment_files.specs.declared.reading.Part.{Part as Scanned}
 use Rattle.segment_files.specs.declared.reading.Found.{Found as Answer}
 use Rattle.segment_files.specs.declared.reading.Found.TheVariants.{Closed as Is_closed, Part as Is_part}
 use Rattle.segment_files.specs.Files.{is_open}
-use Rattle.segment_files.specs.Spelling.{Four, number_at, spelled}
-use Rattle.segment_files.specs.Parse.{Numbered, Part, Found, Closed, Whole, Damaged, Frame, Framed, Crooked, frame, is_next, frame_room, last_limit, Walk, Ends, Fails, appended_walk, mark, descriptor_fields, first_wrong, parse}
+use Rattle.entry_codec.specs.Spelled.{spelled}
+use Rattle.entry_codec.specs.Reading.{Spells, spelling}
+use Rattle.segment_files.specs.Numbers.{Four, number_at}
+use Rattle.host_types.specs.Limits.{last_limit}
+use Rattle.segment_files.specs.Parse.{Numbered, Body, Holds, Breaks, first_of, body, Part, Found, Closed, Whole, Damaged, Frame, Framed, Crooked, frame, is_next, frame_room, Walk, Ends, Fails, appended_walk, mark, descriptor_fields, first_wrong, parse}
 
 -- the descriptor of an appended file
 abbrev pub appended_descriptor : FileId → ℕ → Descriptor
@@ -42,9 +48,22 @@ descriptor_bytes d =
     ++ to_be_bytes w32 d.size
     ++ to_be_bytes w32 0
 
--- a frame of one entry: its open gate, its length, and its body
-abbrev pub frame_bytes : ℕ → Entry → List ℕ
-frame_bytes index entry = 1 ∷ to_be_bytes w32 (length (spelled index entry)) ++ spelled index entry
+-- the body of a frame: its entries, one behind the other
+abbrev pub body_bytes : Numbered → List ℕ
+body_bytes entries = flat_map (λ (e : ℕ × Entry). spelled e.0 e.1) entries
+
+-- a frame: its open gate, its length, and its body
+abbrev pub frame_bytes : Numbered → List ℕ
+frame_bytes entries = 1 ∷ to_be_bytes w32 (length (body_bytes entries)) ++ body_bytes entries
+
+-- where the entries stand, from this place on
+abbrev pub places_from : ℕ → Numbered → List ℕ
+places_from at [] = []
+places_from at (e ∷ entries) = at ∷ places_from (at + length (spelled e.0 e.1)) entries
+
+-- the longest frame
+abbrev pub frame_limit : ℕ
+frame_limit = 8388613
 
 -- what a scan tells of a part
 pub record Shows (scanned : Scanned) (part : Part) : Type 0 where
@@ -87,12 +106,35 @@ abbrev pub IsFailing : Walk → Type 0
 IsFailing (Ends entries gate) = ⊥
 IsFailing (Fails place) = Unit {0}
 
--- behind an open gate these bytes are a frame with this entry alone, or they begin no frame
-abbrev pub IsFrameOf : ℕ → List ℕ → Entry → Type 0
-IsFrameOf before behind entry = (rest : List ℕ) → frame is_next frame_room before (behind ++ rest) ≡ Framed ((before + 1, entry) ∷ []) 21
+-- Of a body that breaks nothing is said but that it does.
+abbrev pub IsBroken : Body → Type 0
+IsBroken (Holds entries) = ⊥
+IsBroken (Breaks place) = Unit {0}
 
-abbrev pub IsNoFrame : ℕ → List ℕ → Type 0
-IsNoFrame before behind = (rest : List ℕ) → IsCrooked (frame is_next frame_room before (behind ++ rest))
+-- the entry that follows was read, with its size; or none follows
+abbrev pub ReadsNext : List ℕ → ℕ → Numbered → Numbered → Option ℕ → Type 0
+ReadsNext bytes before old new (Some size) =
+    (entry : Entry) × (spelling bytes ≡ Spells (before + 1) entry size) × (is_next before (before + 1) entry ≡ true) × (new ≡ old ++ (before + 1, entry) ∷ []) × (1 ≤ size) × (size ≤ length bytes)
+ReadsNext bytes before old new None = ((rest : ℕ → ℕ → Body) → IsBroken (first_of is_next before (spelling bytes) rest)) × (new ≡ old)
+
+-- a body was read, and these are its entries; or it breaks
+pub record ReadsBody (bytes : List ℕ) (before : ℕ) (old new : Numbered) (whole : Bool) : Type 0 where
+  pub more : Numbered
+  pub items : new ≡ old ++ more
+  pub holds : IsTrue whole → body is_next frame_room before bytes ≡ Holds more
+  pub breaks : whole ≡ false → IsBroken (body is_next frame_room before bytes)
+
+-- what stands behind an open gate is a frame of this size, whatever follows it; or too little of it is there; or it is no frame
+abbrev pub IsFrameRead : List ℕ → ℕ → Numbered → FrameRead → Type 0
+IsFrameRead behind before more (Is_whole size) =
+    ((rest : List ℕ) → frame is_next frame_room before (behind ++ rest) ≡ Framed more size) × (size ≤ length behind) × (size + 1 ≤ frame_limit) × (1 ≤ length more)
+IsFrameRead behind before more Is_cut = (more ≡ []) × IsCrooked (frame is_next frame_room before behind)
+IsFrameRead behind before more Is_no_frame = (rest : List ℕ) → IsCrooked (frame is_next frame_room before (behind ++ rest))
+
+pub record ReadsFrame (behind : List ℕ) (before : ℕ) (old new : Numbered) (read : FrameRead) : Type 0 where
+  pub more : Numbered
+  pub items : new ≡ old ++ more
+  pub is : IsFrameRead behind before more read
 
 -- entries ahead of a walk, and how many bytes they take
 abbrev pub extended : Numbered → ℕ → Walk → Walk
@@ -113,8 +155,8 @@ IsWithin size Is_damaged = Unit {0}
 
 -- a place that was come to lies behind the frames of the new entries
 abbrev pub IsMeasured : ℕ → ℕ → Walked → Type 0
-IsMeasured old new (Gate at) = at + 22 * old ≡ 22 * new
-IsMeasured old new (Rest at) = at + 22 * old ≡ 22 * new
+IsMeasured old new (Gate at) = at + frame_limit * old ≤ frame_limit * new
+IsMeasured old new (Rest at) = at + frame_limit * old ≤ frame_limit * new
 IsMeasured old new Is_damaged = Unit {0}
 
 -- where nothing was read, these bytes alone are no frame
@@ -127,14 +169,13 @@ pub record ReadsWindow (window : List ℕ) (before : ℕ) (old new : Numbered) (
   pub within : IsWithin (length window) walked
   pub walk : (rest : List ℕ) → IsWalked (window ++ rest) before more walked
   pub stuck : IsStuck window before walked
-  pub less : walked ≡ Rest 0 → length window < 22
 
--- the same of a piece of these bytes, which are all that is left of a file
-pub record ReadsPiece (bytes : List ℕ) (before : ℕ) (old new : Numbered) (walked : Walked) : Type 0 where
+-- the same of a piece of these bytes, which are all that is left of a file, where so many were read at most
+pub record ReadsPiece (bytes : List ℕ) (most before : ℕ) (old new : Numbered) (walked : Walked) : Type 0 where
   pub more : Numbered
   pub items : new ≡ old ++ more
   pub walk : IsWalked bytes before more walked
-  pub stuck : IsStuck bytes before walked
+  pub stuck : length bytes ≤ most → IsStuck bytes before walked
 
 -- these are the frames of a file
 abbrev pub HasFrames : List ℕ → ℕ → Numbered → Frames → Type 0
@@ -143,7 +184,7 @@ HasFrames bytes before entries Are_damaged = IsFailing (appended_walk 0 before (
 
 -- the gate stands behind the frames of so many entries
 abbrev pub IsLong : ℕ → Frames → Type 0
-IsLong count (End gate) = gate ≡ 64 + 22 * count
+IsLong count (End gate) = gate ≤ 64 + frame_limit * count
 IsLong count Are_damaged = Unit {0}
 
 -- THE READING OF A FILE
@@ -192,9 +233,9 @@ IsRead id found (Err fault) = IsTrueFault found fault
 
 abbrev pub HasFew : Contents → Type 0
 HasFew Is_shut = Unit {0}
-HasFew (Open descriptor entries gate) = (length entries.items ≤ last_limit) × (gate ≡ 64 + 22 * length entries.items)
+HasFew (Open descriptor entries gate) = (length entries.items ≤ last_limit) × (gate ≤ 64 + frame_limit * length entries.items)
 
 -- how far a part reaches, whatever the disk tells
 abbrev pub IsBounded : FileId → Answer → Type 0
 IsBounded id Is_closed = Unit {0}
-IsBounded id (Is_part part) = (part.last ≡ id.base - 1 + part.entries) × (part.gate ≡ 64 + 22 * part.entries) × (part.entries ≤ last_limit)
+IsBounded id (Is_part part) = (part.last ≡ id.base - 1 + part.entries) × (part.gate ≤ 64 + frame_limit * part.entries) × (part.entries ≤ last_limit)

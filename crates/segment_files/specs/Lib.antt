@@ -2,4 +2,4 @@ pub mod Contents
 pub mod Files
 pub mod Folder
 pub mod Parse
-pub mod Spelling
+pub mod Numbers

@@ -1,10 +1,14 @@
 -- What the bytes of one file are: closed, a part of a log, or damaged at a place.
 -- Each place is counted from the start of what is read, and each level adds its own.
-use Rattle.std.specs.Prelude.{◌+◌, ◌-◌, ℕ, zero, suc, Bool, false, not, ◌&&◌, nat_eq, nat_lt, nat_le, if◌then◌else◌, List, [], ◌∷◌, ◌++◌, length, take, drop, Option, Some, None}
+use Rattle.std.specs.Prelude.{◌+◌, ◌-◌, ℕ, zero, suc, Bool, true, false, not, ◌&&◌, nat_eq, nat_lt, nat_le, if◌then◌else◌, List, [], ◌∷◌, ◌++◌, length, take, drop, Option, Some, None}
 use Rattle.host_types.specs.declared.entry.Entry.{Entry}
 use Rattle.disk_model.specs.declared.file_id.FileId.{FileId}
 use Rattle.segment_files.specs.Files.{is_open}
-use Rattle.segment_files.specs.Spelling.{Size, One, Four, Eight, bytes_of, number_at, Spelling, Spells, Spoils, spelling}
+use Rattle.host_types.specs.declared.entry.Body.{Body as What}
+use Rattle.host_types.specs.declared.entry.Body.TheVariants.{Register, Alive, Close, Tick, Command}
+use Rattle.host_types.specs.Limits.{last_limit}
+use Rattle.entry_codec.specs.Reading.{Spelling, Spells, Spoils, spelling}
+use Rattle.segment_files.specs.Numbers.{Size, One, Four, Eight, bytes_of, number_at}
 
 -- entries with their indexes
 abbrev pub Numbered : Type 0
@@ -20,12 +24,16 @@ abbrev pub with_entry : ℕ → Entry → ℕ → Body → Body
 with_entry index entry size (Holds entries) = Holds ((index, entry) ∷ entries)
 with_entry index entry size (Breaks place) = Breaks (size + place)
 
-abbrev pub first_of : (ℕ → ℕ → Bool) → ℕ → Spelling → (ℕ → ℕ → Body) → Body
-first_of follows before (Spoils place) rest = Breaks place
-first_of follows before (Spells index entry size) rest = if follows before index then with_entry index entry size (rest index size) else Breaks 0
+-- which entry may stand behind an index that is given
+abbrev pub Follows : Type 0
+Follows = ℕ → ℕ → Entry → Bool
 
--- the entries of a body, where so many more may stand in it, and which index may follow which is given
-unfoldable pub body : (ℕ → ℕ → Bool) → ℕ → ℕ → List ℕ → Body
+abbrev pub first_of : Follows → ℕ → Spelling → (ℕ → ℕ → Body) → Body
+first_of follows before (Spoils place) rest = Breaks place
+first_of follows before (Spells index entry size) rest = if follows before index entry then with_entry index entry size (rest index size) else Breaks 0
+
+-- the entries of a body, where so many more may stand in it
+unfoldable pub body : Follows → ℕ → ℕ → List ℕ → Body
 body follows zero before [] = Holds []
 body follows zero before (b ∷ bytes) = Breaks 0
 body follows (suc room) before [] = Holds []
@@ -40,12 +48,16 @@ abbrev pub framed : ℕ → ℕ → Body → Frame
 framed size long (Breaks place) = Crooked (4 + place)
 framed size long (Holds entries) = if nat_lt long (4 + size) then Crooked long else Framed entries (4 + size)
 
+-- the greatest length of a body
+abbrev pub body_limit : ℕ
+body_limit = 8388608
+
 -- what stands behind an open gate, where so many entries may stand in it
-unfoldable pub frame : (ℕ → ℕ → Bool) → ℕ → ℕ → List ℕ → Frame
+unfoldable pub frame : Follows → ℕ → ℕ → List ℕ → Frame
 frame follows room before bytes =
     let size = number_at Four 0 bytes in
     if nat_lt (length bytes) 4 then Crooked (length bytes)
-    else if not (nat_le 17 size && nat_le size 8388608) then Crooked 0
+    else if not (nat_le 17 size && nat_le size body_limit) then Crooked 0
     else framed size (length bytes) (body follows room before (take size (drop 4 bytes)))
 
 -- THE FRAMES of an appended file, up to the first gate that isn't open.
@@ -70,15 +82,19 @@ go_on (Framed entries size) rest = behind_frame entries (rest entries size)
 
 -- how many entries may stand in a frame
 abbrev pub frame_room : ℕ
-frame_room = 1
+frame_room = 64
 
--- the greatest last index of a log that is one file
-abbrev pub last_limit : ℕ
-last_limit = 4294967295
+-- which entries a log may have today: what isn't built yet is damage
+abbrev pub is_built : What → Bool
+is_built Tick = true
+is_built (Register timeout) = false
+is_built (Alive session seq event) = false
+is_built (Close session expired) = false
+is_built (Command session seq effect reply) = false
 
 -- each index is the one after
-abbrev pub is_next : ℕ → ℕ → Bool
-is_next before index = nat_eq index (before + 1) && nat_le index last_limit
+abbrev pub is_next : Follows
+is_next before index entry = nat_eq index (before + 1) && (nat_le index last_limit && is_built entry.body)
 
 -- So many bytes are passed first: those of the frame before. The recursion is on the bytes.
 unfoldable pub appended_walk : ℕ → ℕ → List ℕ → Walk

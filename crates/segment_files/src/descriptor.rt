@@ -2,7 +2,7 @@
 ghost use Rattle.std.specs.Prelude.{◌≡◌, ◌+◌, ◌≤◌, ◌&&◌, ℕ, nat_eq, length, slice_index, IfSome, IfNone};
 ghost use Rattle.disk_model.specs.Image.{written};
 ghost use Rattle.segment_files.specs.Parse.{descriptor_fields, first_wrong, mark};
-ghost use Rattle.segment_files.specs.Spelling.{Four, Eight, number_at};
+ghost use Rattle.segment_files.specs.Numbers.{Four, Eight, number_at};
 ghost use Rattle.segment_files.specs.Contents.{appended_descriptor, descriptor_bytes};
 
 use crate::numbers::{u32_at, u64_at};

@@ -1,94 +1,83 @@
-// A frame: an open gate, a length, and one entry.
-ghost use Rattle.std.specs.Prelude.{◌≡◌, ◌++◌, ◌+◌, ◌-◌, ◌≤◌, length, IfOk, IfSome, IfNone, OnOk, OnErr};
-ghost use Rattle.disk_model.specs.Image.{id_limit};
-ghost use Rattle.segment_files.specs.Spelling.{index_limit, tick_at};
-ghost use Rattle.segment_files.specs.Parse.{last_limit};
-ghost use Rattle.segment_files.specs.Contents.{IsMeasured, frame_bytes, IsFrameOf, IsNoFrame, ReadsWindow};
+// Writes frames: an open gate, a length, and so many bytes of entries.
+ghost use Rattle.std.specs.Prelude.{◌≡◌, ◌++◌, ◌+◌, ◌-◌, ◌*◌, ◌≤◌, ◌<◌, [], length, take, OnOk, OnErr};
+ghost use Rattle.segment_files.specs.Contents.{body_bytes, frame_bytes, places_from};
 
 use crate::descriptor::put;
-use crate::numbers::{u32_at, u64_at};
-use host_types::{Body, Entry, Index, NoMemory, Time};
+use entry_codec::write;
+use host_types::{Entry, Index, NoMemory};
 
-/// The bytes of a frame with one tick: a gate, a length of 4 bytes, an index and a time of 8 each, and a tag.
-pub(crate) const TICK_FRAME: usize = 22;
+/// The most entries of a frame.
+pub const FRAME_ROOM: usize = 64;
 
-/// The greatest last index of a log that is one file.
-const LAST: Index = 4294967295;
+/// The greatest length of a frame's body.
+pub(crate) const BODY_LIMIT: usize = 8388608;
 
-/// Appends one open frame with a tick at this index.
-pub fn tick_frame(index: Index, time: Time, out: &mut Vec<u8>) -> Result<(), NoMemory>
-    requires first { 1 ≤ index }
-    requires last { index ≤ index_limit }
-    ensures ok { OnOk result (out.new.items ≡ out.old.items ++ frame_bytes index (tick_at time)) }
-    ensures err { OnErr result (out.new.items ≡ out.old.items) }
+/// What stands in front of a body: the open gate, and room for the body's length.
+const HEAD: [u8; 5] = [1, 0, 0, 0, 0];
+
+/// Puts entries behind what stands there, and the place of each, counted from `start`, behind the other places.
+fn put_entries(
+    entries: &[(Index, Entry)],
+    start: usize,
+    out: &mut Vec<u8>,
+    places: &mut Vec<u32>,
+) -> Result<(), NoMemory>
+    requires few { length entries.now ≤ 64 }
+    requires start { length out.old.items ≡ start + 5 }
+    ensures body { OnOk result (out.new.items ≡ out.old.items ++ body_bytes entries.now) }
+    ensures places { OnOk result (places.new.items ≡ places.old.items ++ places_from 5 entries.now) }
+    ensures short { OnOk result (length out.new.items ≤ start + 5 + 131072 * length entries.now) }
+    ensures ahead { take start out.new.items ≡ take start out.old.items }
 {
-    let mut frame = [0u8; TICK_FRAME];
-    put(&mut frame, 0, &[1, 0, 0, 0, 17]);
-    put(&mut frame, 5, &index.to_be_bytes());
-    put(&mut frame, 13, &time.to_be_bytes());
-    put(&mut frame, 21, &[4]);
-    out.extend_from_slice(&frame)?;
+    for (index, entry) in entries {
+        places.push((out.len() - start) as u32)?;
+        write(*index, entry, out)?;
+    }
     Ok(())
 }
 
-/// How far the reading of some bytes came, which begin with a gate.
-#[derive(Clone, Copy, Debug, PartialEq, Eq)]
-pub(crate) enum Walked {
-    /// To a gate that isn't open.
-    Gate { at: usize },
-    /// To the end, or to a last frame there that isn't whole.
-    Rest { at: usize },
-    /// To a frame that isn't right.
-    Damaged,
+/// Puts a frame behind the bytes that stand there, which end at `start`.
+fn put_frame(
+    entries: &[(Index, Entry)],
+    start: usize,
+    out: &mut Vec<u8>,
+    places: &mut Vec<u32>,
+) -> Result<(), NoMemory>
+    requires few { length entries.now ≤ 64 }
+    requires start { length out.old.items ≡ start }
+    requires none { places.old.items ≡ [] }
+    ensures frame { OnOk result (out.new.items ≡ out.old.items ++ frame_bytes entries.now) }
+    ensures places { OnOk result (places.new.items ≡ places_from 5 entries.now) }
+    ensures ahead { take start out.new.items ≡ out.old.items }
+{
+    out.extend_from_slice(&HEAD)?;
+    put_entries(entries, start, out, places)?;
+    let size = (out.len() - start - HEAD.len()) as u32;
+    put(out, start + 1, &size.to_be_bytes());
+    Ok(())
 }
 
-/// The entry of the frame that these bytes are, behind its gate, where the index before it is given.
-fn read_tick(before: Index, behind: &[u8]) -> Option<Entry>
-    requires whole { length behind.now ≡ 21 }
-    requires before { before ≤ index_limit + last_limit }
-    ensures right { IfSome result (λ entry. IsFrameOf before behind.now entry) }
-    ensures wrong { IfNone result (IsNoFrame before behind.now) }
+/// Appends one open frame with these entries, 1 to 64, and leaves in `places` the place of each, counted from the frame's
+/// gate (`docs/format.md`). Where no memory is left `out` is as before, and `places` is empty.
+pub fn frame(
+    entries: &[(Index, Entry)],
+    out: &mut Vec<u8>,
+    places: &mut Vec<u32>,
+) -> Result<(), NoMemory>
+    requires some { 1 ≤ length entries.now }
+    requires few { length entries.now ≤ 64 }
+    ensures ok { OnOk result (out.new.items ≡ out.old.items ++ frame_bytes entries.now) }
+    ensures places { OnOk result (places.new.items ≡ places_from 5 entries.now) }
+    ensures err { OnErr result ((out.new.items ≡ out.old.items) × (places.new.items ≡ [])) }
 {
-    let index = before + 1;
-    if u32_at(behind, 0) != 17 || u64_at(behind, 4) != index {
-        return None;
-    }
-    if index > LAST || behind[20] != 4 {
-        return None;
-    }
-    Some(Entry {
-        time: u64_at(behind, 12),
-        body: Body::Tick,
-    })
-}
-
-/// Reads all whole frames of a window, which begins with a gate, behind the entries of the file that are read already.
-pub(crate) fn read_window(
-    base: Index,
-    window: &[u8],
-    entries: &mut Vec<(Index, Entry)>,
-) -> Result<Walked, NoMemory>
-    requires base_first { 1 ≤ base }
-    requires base_last { base ≤ id_limit }
-    requires few { length entries.old.items ≤ last_limit }
-    ensures few { IfOk result (λ walked. length entries.new.items ≤ last_limit) }
-    ensures measured { IfOk result (IsMeasured (length entries.old.items) (length entries.new.items)) }
-    ensures reads { IfOk result (λ walked. ReadsWindow window.now (base - 1 + length entries.old.items) entries.old.items entries.new.items walked) }
-{
-    let mut at = 0;
-    while at < window.len() {
-        if window[at] != 1 {
-            return Ok(Walked::Gate { at });
+    let start = out.len();
+    places.clear();
+    match put_frame(entries, start, out, places) {
+        Ok(()) => Ok(()),
+        Err(NoMemory) => {
+            out.truncate(start);
+            places.clear();
+            Err(NoMemory)
         }
-        if window.len() - at < TICK_FRAME {
-            return Ok(Walked::Rest { at });
-        }
-        let before = base - 1 + entries.len() as u64;
-        let Some(entry) = read_tick(before, &window[at + 1..at + TICK_FRAME]) else {
-            return Ok(Walked::Damaged);
-        };
-        entries.push((before + 1, entry))?;
-        at += TICK_FRAME;
     }
-    Ok(Walked::Rest { at })
 }

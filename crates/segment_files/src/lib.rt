@@ -8,9 +8,10 @@ mod numbers;
 mod reading;
 mod settle;
 mod tails;
+mod windows;
 
 pub use descriptor::Descriptor;
-pub use frames::tick_frame;
+pub use frames::{FRAME_ROOM, frame};
 pub use gates::{append_frame, open_gate};
 pub use reading::{FileFault, Found, Part, entries, scan};
 pub use settle::settle_all;

@@ -1,8 +1,8 @@
 // Numbers in bytes, with the greatest byte first.
 ghost use Rattle.std.specs.Prelude.{◌≡◌, ◌+◌, ◌≤◌, length};
-ghost use Rattle.segment_files.specs.Spelling.{Four, Eight, number_at};
+ghost use Rattle.segment_files.specs.Numbers.{Four, Eight, number_at};
 
-#[tactic(auto, unfolding(crate::specs::Spelling::number_at))]
+#[tactic(auto, unfolding(crate::specs::Numbers::number_at))]
 /// The number of 4 bytes at this place.
 pub(crate) fn u32_at(bytes: &[u8], at: usize) -> u32
     requires { at + 4 ≤ length bytes.now }
@@ -13,7 +13,7 @@ pub(crate) fn u32_at(bytes: &[u8], at: usize) -> u32
     u32::from_be_bytes(part)
 }
 
-#[tactic(auto, unfolding(crate::specs::Spelling::number_at))]
+#[tactic(auto, unfolding(crate::specs::Numbers::number_at))]
 /// The number of 8 bytes at this place.
 pub(crate) fn u64_at(bytes: &[u8], at: usize) -> u64
     requires { at + 8 ≤ length bytes.now }

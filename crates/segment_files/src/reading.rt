@@ -1,15 +1,16 @@
 // What a file holds, read from its start to its first gate that isn't open.
-ghost use Rattle.std.specs.Prelude.{◌≡◌, ◌+◌, ◌-◌, ◌<◌, ◌≤◌, ℕ, List, [], length, drop, IsTrue, IsErrOf, IfOk, IfErr};
+ghost use Rattle.std.specs.Prelude.{◌≡◌, ◌+◌, ◌-◌, ◌<◌, ◌≤◌, ℕ, List, [], length, drop, IsTrue, IsErrOf, IfOk, IfErr, OnOk};
 ghost use Rattle.disk_model.specs.Image.{IsFileId, place};
 ghost use Rattle.disk_model.specs.View.{LeavesAt, MayHold, Reads, IsListed};
 ghost use Rattle.disk_model.specs.Calls.{Looks, Stays};
 ghost use Rattle.segment_files.specs.Files.{is_open};
-ghost use Rattle.segment_files.specs.Parse.{last_limit, parse};
+ghost use Rattle.host_types.specs.Limits.{last_limit};
+ghost use Rattle.segment_files.specs.Parse.{parse};
 ghost use Rattle.segment_files.specs.declared.reading.FileFault.TheVariants.{NoMemory};
 ghost use Rattle.segment_files.specs.Contents.{HasEntries, HasFew, IsBounded, IsLong, IsMeasured, HasFileCause, HasFrames, IsDamage, IsFound, IsHead, IsRead, IsNoDamage, IsWithin, ReadsPiece, file_fault};
 
 use crate::descriptor::Descriptor;
-use crate::frames::{TICK_FRAME, Walked, read_window};
+use crate::windows::{Walked, read_window};
 use disk_model::{Disk, DiskFault, FileId};
 use host_types::{Entry, Index, LogName, NoMemory as OutOfMemory};
 use std::alloc::{AllocError, Global};
@@ -64,8 +65,8 @@ enum Frames {
     Damaged,
 }
 
-/// How many bytes are read at once: so many frames with one tick.
-const PIECE: usize = 2978 * TICK_FRAME;
+/// How many bytes are read at once, unless a frame is longer.
+const PIECE: usize = 65536;
 
 impl From<DiskFault> for FileFault {
     ghost from_gives = { λ fault e. e ≡ file_fault fault };
@@ -123,6 +124,7 @@ fn read_head<D: Disk>(
 /// Reads the next piece of a file, which ends at `end`, from the gate at `at` on. A piece that comes shorter than it was
 /// asked for is damaged.
 fn read_piece<D: Disk>(
+    alloc: Global,
     disk: &mut D,
     name: &LogName,
     id: FileId,
@@ -135,14 +137,13 @@ fn read_piece<D: Disk>(
     requires listed { IsTrue D.tells → IsListed (D.view disk.old) (place name.now id) }
     requires within { at < end }
     requires end { IsTrue D.tells → (bytes : List ℕ) → Reads (D.view disk.old) (place name.now id) bytes → end ≡ length bytes }
-    requires buffer { 22 ≤ length buffer.old }
     requires few { length entries.old.items ≤ last_limit }
     ensures few { IfOk result (λ walked. length entries.new.items ≤ last_limit) }
     ensures within { IfOk result (IsWithin (end - at)) }
     ensures measured { IfOk result (IsMeasured (length entries.old.items) (length entries.new.items)) }
     ensures no_damage { IfErr result IsNoDamage }
     ensures reads { IsTrue D.tells → (bytes : List ℕ) → Reads (D.view disk.old) (place name.now id) bytes
-        → IfOk result (ReadsPiece (drop at bytes) (id.base - 1 + length entries.old.items) entries.old.items entries.new.items) }
+        → IfOk result (ReadsPiece (drop at bytes) (length buffer.old) (id.base - 1 + length entries.old.items) entries.old.items entries.new.items) }
     ensures told { IsTrue D.tells → Looks (D.view disk.old) (D.view disk.new) }
     ensures cause { HasFileCause (D.faults disk.old) (D.faults disk.new) result }
 {
@@ -152,23 +153,35 @@ fn read_piece<D: Disk>(
     if count < want {
         return Ok(Walked::Damaged);
     }
-    let walked = read_window(id.base, window, entries)?;
+    let walked = read_window(alloc, id.base, window, entries)?;
     Ok(walked)
+}
+
+/// Makes room for a frame that is longer than a piece, of which no more than so many bytes are there.
+fn lengthen(buffer: &mut Vec<u8>, most: u64) -> Result<(), OutOfMemory>
+    requires longer { length buffer.old.items < most }
+    requires some { 1 ≤ length buffer.old.items }
+    ensures longer { OnOk result (length buffer.old.items < length buffer.new.items) }
+{
+    let size = (buffer.len() as u64).saturating_mul(2).min(most) as usize;
+    buffer.resize(size, 0)?;
+    Ok(())
 }
 
 /// Reads the frames of a file, which ends at `end`, from one piece to the next.
 fn read_frames<D: Disk>(
+    alloc: Global,
     disk: &mut D,
     name: &LogName,
     id: FileId,
     end: u64,
-    buffer: &mut [u8],
+    buffer: &mut Vec<u8>,
     entries: &mut Vec<(Index, Entry)>,
 ) -> Result<Frames, FileFault>
     requires id { IsFileId id }
     requires listed { IsTrue D.tells → IsListed (D.view disk.old) (place name.now id) }
     requires end { IsTrue D.tells → (bytes : List ℕ) → Reads (D.view disk.old) (place name.now id) bytes → end ≡ length bytes }
-    requires buffer { 22 ≤ length buffer.old }
+    requires buffer { 1 ≤ length buffer.old.items }
     requires none { entries.old.items ≡ [] }
     ensures few { IfOk result (λ frames. length entries.new.items ≤ last_limit) }
     ensures measured { IfOk result (IsLong (length entries.new.items)) }
@@ -180,7 +193,7 @@ fn read_frames<D: Disk>(
 {
     let mut at = 64;
     while at < end {
-        match read_piece(disk, name, id, at, end, buffer, entries)? {
+        match read_piece(alloc, disk, name, id, at, end, buffer, entries)? {
             Walked::Gate { at: behind } => {
                 return Ok(Frames::End {
                     gate: at + behind as u64,
@@ -188,10 +201,13 @@ fn read_frames<D: Disk>(
             }
             Walked::Damaged => return Ok(Frames::Damaged),
             Walked::Rest { at: behind } => {
-                if behind == 0 {
+                if behind > 0 {
+                    at += behind as u64;
+                } else if end - at > buffer.len() as u64 {
+                    lengthen(buffer, end - at)?;
+                } else {
                     return Ok(Frames::Damaged);
                 }
-                at += behind as u64;
             }
         }
     }
@@ -217,7 +233,7 @@ fn read_part<D: Disk>(
     let end = disk.length(name, id)?;
     let mut buffer = vec![in alloc; 0u8; PIECE]?;
     let mut entries = Vec::new(alloc);
-    match read_frames(disk, name, id, end, &mut buffer, &mut entries)? {
+    match read_frames(alloc, disk, name, id, end, &mut buffer, &mut entries)? {
         Frames::Damaged => Err(FileFault::Damaged { at: 0 }),
         Frames::End { gate } => Ok(Contents::Open {
             descriptor,

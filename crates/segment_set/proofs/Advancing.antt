@@ -9,7 +9,7 @@ use Rattle.segment_files.specs.Parse.{Part, Whole}
 use Rattle.segment_files.specs.Folder.{folder, EachHas}
 use Rattle.segment_set.specs.declared.parts.Tail.{Tail}
 use Rattle.segment_set.specs.Growth.{HasOrGains}
-use Rattle.segment_set.specs.Fits.{Fits, IsFrameFor, IsHeld, IsTailAt, IsTailOf, StandsOrGains, TailFits, TailIs, gained, greatest_after, last_of, log_of, parts_in, with_entry}
+use Rattle.segment_set.specs.Fits.{Fits, IsFrameFor, IsHeld, IsTailAt, IsTailOf, StandsOrGains, TailFits, TailIs, frame_size, gained, greatest_after, last_of, log_of, parts_in, with_entry}
 use Rattle.segment_set.proofs.Loading.{bytes_of_whole}
 use Rattle.segment_set.proofs.Gaining.{whole_plain, with_or_without, list_at, fits_at}
 
@@ -51,7 +51,7 @@ module _ (v : View) (name : List ℕ) (old : Option Tail) (greatest : ℕ) (tail
   pub advances_held : (w : View) (next : Tail) (p : Part) (entry : Entry) → IsTailAt w name next (with_entry p entry) → EachHas w name (with_entry p entry ∷ []) → IsHeld w name (Some next)
   advances_held w next p entry at each = subst (EachHas w name) (sym (list_at w name next (with_entry p entry) at.whole)) each
 
-  pub advances_left : (w : View) (p : Part) (entry : Entry) → folder name v.reading tail.id ≡ Whole p → LeavesOnly v w (HasOrGains name p ((p.last + 1, entry) ∷ []) 22)
+  pub advances_left : (w : View) (p : Part) (entry : Entry) → folder name v.reading tail.id ≡ Whole p → LeavesOnly v w (HasOrGains name p ((p.last + 1, entry) ∷ []) (frame_size (p.last + 1) entry))
       → LeavesOnly v w (StandsOrGains name (log_of (parts_in v.reading name old)) entry)
   advances_left w p entry whole only =
       subst (λ (l : List Part). LeavesOnly v w (StandsOrGains name (log_of l) entry)) (sym (list_is p whole))

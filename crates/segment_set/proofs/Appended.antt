@@ -5,7 +5,7 @@ use Rattle.std.proofs.lemmas.Bool.{cases_Bool, eqb-true, and_from, and_parts, le
 use Rattle.disk_model.specs.declared.file_id.FileId.{FileId}
 use Rattle.disk_model.specs.Image.{written}
 use Rattle.segment_files.specs.Files.{is_open, IsWholeOrAbsent, then_shut}
-use Rattle.segment_files.specs.Spelling.{Four, number_at}
+use Rattle.segment_files.specs.Numbers.{Four, number_at}
 use Rattle.segment_files.specs.Parse.{Numbered, Part, Closed, Whole, first_wrong, descriptor_fields, described, appended_part, Framed, frame, is_next, frame_room, Walk, Ends, Fails, appended_walk, parse_open, parse}
 use Rattle.segment_set.specs.Growth.{grown}
 use Rattle.segment_set.proofs.Walks.{walked, reach, extend, extended, one_frame, walk_shut}

@@ -12,7 +12,7 @@ use Rattle.segment_files.specs.Parse.{Part, Whole}
 use Rattle.segment_files.specs.Folder.{Folder, folder, IsChoice, AreOf, Stands}
 use Rattle.segment_set.specs.declared.parts.Tail.{Tail}
 use Rattle.segment_set.specs.Growth.{new_tail, HasOrGains, HasNoneOr}
-use Rattle.segment_set.specs.Fits.{Fits, IsTailAt, KeepsNames, StandsOrGains, bare, log_of, part_list, parts_in, with_entry}
+use Rattle.segment_set.specs.Fits.{Fits, IsTailAt, KeepsNames, StandsOrGains, bare, frame_size, log_of, part_list, parts_in, with_entry}
 use Rattle.segment_set.proofs.Loading.{bytes_of_whole}
 use Rattle.segment_set.proofs.Numbering.{IsPlain, none_follow, plain_part}
 use Rattle.segment_set.proofs.AreLogs.{are_none, are_one, bare-append, plain_grown}
@@ -42,7 +42,7 @@ grown_log p entry = one_log (with_entry p entry) ∙ bare-append p.entries ((p.l
 
 pub stands_grown : (files : Folder) (id : FileId) (p : Part) (entry : Entry) → IsChoice files (with_entry p entry ∷ []) → IsPlain id p → id.base ≡ 1 → Stands files (log_of (p ∷ []) ++ entry ∷ [])
 stands_grown files id p entry choice plain base =
-    subst (λ (l : List Entry). Stands files l) (grown_log p entry) (stands_one files id (with_entry p entry) choice (plain_grown id p entry (p.last + 1) 22 plain refl) base)
+    subst (λ (l : List Entry). Stands files l) (grown_log p entry) (stands_one files id (with_entry p entry) choice (plain_grown id p entry (p.last + 1) (frame_size (p.last + 1) entry) plain refl) base)
 
 pub stands_none : (files : Folder) → IsChoice files [] → Stands files []
 stands_none files choice = record { parts = []; choice = choice; are = are_none }
@@ -52,9 +52,9 @@ new_plain id size = record { id_is = refl; plain = refl; last = omega arith; cut
 
 -- with the frame or without it
 pub with_or_without : (v w : View) (name : List ℕ) (id : FileId) (p : Part) (entry : Entry) → IsPlain id p → id.base ≡ 1
-    → LeavesOnly v w (HasOrGains name p ((p.last + 1, entry) ∷ []) 22) → LeavesOnly v w (StandsOrGains name (log_of (p ∷ [])) entry)
+    → LeavesOnly v w (HasOrGains name p ((p.last + 1, entry) ∷ []) (frame_size (p.last + 1) entry)) → LeavesOnly v w (StandsOrGains name (log_of (p ∷ [])) entry)
 with_or_without v w name id p entry plain base only =
-    weaker v w (HasOrGains name p ((p.last + 1, entry) ∷ []) 22) (StandsOrGains name (log_of (p ∷ [])) entry) only
+    weaker v w (HasOrGains name p ((p.last + 1, entry) ∷ []) (frame_size (p.last + 1) entry)) (StandsOrGains name (log_of (p ∷ [])) entry) only
     (λ c has. ⊎_elim (λ same. inl (stands_one (folder name c) id p same plain base)) (λ more. inr (stands_grown (folder name c) id p entry more plain base)) has)
 
 -- while the first file is made
@@ -65,7 +65,7 @@ while_made v w name id size entry base only =
 
 -- and then its first frame appended
 pub made_and_pushed : (v m w : View) (name : List ℕ) (id : FileId) (size : ℕ) (entry : Entry) → id.base ≡ 1 → LeavesOnly v m (HasNoneOr name (new_tail id size))
-    → LeavesOnly m w (HasOrGains name (new_tail id size) (((new_tail id size).last + 1, entry) ∷ []) 22) → LeavesOnly v w (StandsOrGains name [] entry)
+    → LeavesOnly m w (HasOrGains name (new_tail id size) (((new_tail id size).last + 1, entry) ∷ []) (frame_size ((new_tail id size).last + 1) entry)) → LeavesOnly v w (StandsOrGains name [] entry)
 made_and_pushed v m w name id size entry base made pushed =
     goes_further v m w (StandsOrGains name [] entry) (while_made v m name id size entry base made)
     (with_or_without m w name id (new_tail id size) entry (new_plain id size) base pushed)

@@ -5,8 +5,10 @@ use Rattle.std.proofs.lemmas.List.{map-append, length-map}
 use Rattle.std.proofs.lemmas.Bool.{eqb-true, and_parts}
 use Rattle.host_types.specs.declared.entry.Entry.{Entry}
 use Rattle.disk_model.specs.declared.file_id.FileId.{FileId}
-use Rattle.segment_files.specs.Spelling.{Four, number_at, Spelling, Spells, Spoils, spelling}
-use Rattle.segment_files.specs.Parse.{Numbered, Part, Whole, Body, Holds, Breaks, with_entry, first_of, body, Framed, Crooked, framed, frame, is_next, frame_room, last_limit, parse}
+use Rattle.segment_files.specs.Numbers.{Four, number_at}
+use Rattle.entry_codec.specs.Reading.{Spelling, Spells, Spoils, spelling}
+use Rattle.host_types.specs.Limits.{last_limit}
+use Rattle.segment_files.specs.Parse.{Numbered, Part, Whole, Body, Holds, Breaks, with_entry, first_of, body, Framed, Crooked, framed, frame, is_built, is_next, frame_room, parse}
 use Rattle.segment_set.specs.Fits.{bare}
 use Rattle.segment_set.proofs.Walks.{Walked, By_byte, At_gate, By_frame, walked, frame_form}
 use Rattle.segment_set.proofs.Appended.{appended}
@@ -40,8 +42,8 @@ more_follow before a b f g = record {
       ∙ ap (enumerate_from (before + 1)) (sym (map-append (λ (e : ℕ × Entry). e.1) a b));
 }
 
-next_is : (before index : ℕ) → is_next before index ≡ true → index ≡ before + 1
-next_is before index t = eqb-true index (before + 1) (and_parts (nat_eq index (before + 1)) (nat_le index last_limit) t).0
+next_is : (before index : ℕ) (entry : Entry) → is_next before index entry ≡ true → index ≡ before + 1
+next_is before index entry t = eqb-true index (before + 1) (and_parts (nat_eq index (before + 1)) (nat_le index last_limit && is_built entry.body) t).0
 
 body_none : (room before : ℕ) → body is_next room before [] ≡ Holds []
 unfolding body
@@ -76,14 +78,14 @@ body_follows (suc room) before (b ∷ bytes) es is = first (λ k m c. body_follo
         let es_is : (index, entry) ∷ more ≡ es = cc in
         subst (Follows before) es_is (one_follows before index entry more next (all index (drop size (b ∷ bytes)) more c_is))
 
-    test : All → (index : ℕ) (entry : Entry) (size : ℕ) (t : Bool) → is_next before index ≡ t
+    test : All → (index : ℕ) (entry : Entry) (size : ℕ) (t : Bool) → is_next before index entry ≡ t
         → (if t then with_entry index entry size (body is_next room index (drop size (b ∷ bytes))) else Breaks 0) ≡ Holds es → Follows before es
-    test all index entry size true t_is is = behind all index entry size (next_is before index t_is) (body is_next room index (drop size (b ∷ bytes))) refl is
+    test all index entry size true t_is is = behind all index entry size (next_is before index entry t_is) (body is_next room index (drop size (b ∷ bytes))) refl is
     test all index entry size false t_is is = absurd (cc)
 
     first : All → (s : Spelling) → first_of is_next before s (λ index size. body is_next room index (drop size (b ∷ bytes))) ≡ Holds es → Follows before es
     first all (Spoils p) is = absurd (cc)
-    first all (Spells index entry size) is = test all index entry size (is_next before index) refl is
+    first all (Spells index entry size) is = test all index entry size (is_next before index entry) refl is
 
 -- so those of a frame
 frame_follows : (before : ℕ) (l : List ℕ) (es : Numbered) (n : ℕ) → frame is_next frame_room before l ≡ Framed es n → Follows before es

@@ -1,48 +1,63 @@
 -- A frame is appended to the tail.
-use Rattle.std.proofs.Common.{◌≡◌, ℕ, ◌+◌, ◌<◌, List, [], ◌∷◌, sym, ap, subst, ◌∙◌}
+use Rattle.std.proofs.Common.{◌≡◌, ℕ, ◌+◌, ◌<◌, List, [], ◌∷◌, length, sym, ap, subst, ◌∙◌, arith}
 use Rattle.host_types.specs.declared.entry.Entry.{Entry}
 use Rattle.disk_model.specs.Image.{Place, place}
 use Rattle.disk_model.specs.View.{View, Reads, IsSound, LeavesAt, LeavesOnly}
 use Rattle.segment_files.specs.Files.{IsAtGate, OrFrame, Becomes, appended, then_shut}
-use Rattle.segment_files.specs.Parse.{Part, Whole, last_limit}
+use Rattle.host_types.specs.Limits.{last_limit}
+use Rattle.segment_files.specs.Parse.{Part, Whole}
 use Rattle.segment_files.specs.Folder.{folder, EachHas}
 use Rattle.segment_set.specs.declared.parts.Tail.{Tail}
-use Rattle.segment_set.specs.Growth.{HasOrGains}
-use Rattle.segment_set.specs.Fits.{IsFrameFor, TailFits, with_entry}
+use Rattle.segment_set.specs.Growth.{HasOrGains, grown}
+use Rattle.segment_set.specs.Fits.{IsFrameFor, TailFits, frame_size, with_entry}
 use Rattle.segment_set.proofs.Growing.{Appendable, appending, reads_after, held_after, gate_after}
 use Rattle.segment_set.proofs.Frames.{behind, appendable}
 
 module _ (v e : View) (name : List ℕ) (tail : Tail) (part : Part) (bytes : List ℕ) (entry : Entry)
     (sound : IsSound v) (fits : TailFits v name tail) (whole : folder name v.reading tail.id ≡ Whole part) (room : tail.last < last_limit) (f : IsFrameFor tail.last bytes entry) where
-  a : Appendable v name part tail.gate (behind tail.last f.time) ((part.last + 1, entry) ∷ []) × (part.id ≡ tail.id) × (part.last ≡ tail.last) × (part.size ≡ tail.size)
+  a : Appendable v name part tail.gate (behind tail.last entry) ((part.last + 1, entry) ∷ []) × (part.id ≡ tail.id) × (part.last ≡ tail.last) × (part.size ≡ tail.size)
   a = appendable v name tail part bytes entry fits whole room f
 
   at : place name tail.id ≡ place name part.id
   at = ap (place name) (sym (appendable v name tail part bytes entry fits whole room f).1)
 
-  pub push_left : EachHas v name (part ∷ []) → LeavesAt v e (OrFrame v (place name tail.id) tail.gate (then_shut (behind tail.last f.time))) → LeavesOnly v e (HasOrGains name part ((part.last + 1, entry) ∷ []) 22)
-  push_left each left = appending v name part tail.gate (behind tail.last f.time) ((part.last + 1, entry) ∷ []) sound (appendable v name tail part bytes entry fits whole room f).0 e each
-      (subst (λ (p : Place). LeavesAt v e (OrFrame v p tail.gate (then_shut (behind tail.last f.time)))) at left)
+  -- its frame's size
+  long_is : 1 + length (behind tail.last entry) ≡ frame_size (part.last + 1) entry
+  long_is =
+      let long : 1 + length (behind tail.last entry) ≡ frame_size (tail.last + 1) entry = omega arith in
+      long ∙ sym (ap (λ (k : ℕ). frame_size (k + 1) entry) (appendable v name tail part bytes entry fits whole room f).2)
+
+  pub push_left : EachHas v name (part ∷ []) → LeavesAt v e (OrFrame v (place name tail.id) tail.gate (then_shut (behind tail.last entry))) → LeavesOnly v e (HasOrGains name part ((part.last + 1, entry) ∷ []) (frame_size (part.last + 1) entry))
+  push_left each left = subst (λ (k : ℕ). LeavesOnly v e (HasOrGains name part ((part.last + 1, entry) ∷ []) k)) long_is
+      (appending v name part tail.gate (behind tail.last entry) ((part.last + 1, entry) ∷ []) sound (appendable v name tail part bytes entry fits whole room f).0 e each
+      (subst (λ (p : Place). LeavesAt v e (OrFrame v p tail.gate (then_shut (behind tail.last entry)))) at left))
 
   -- what the call leaves of the bytes that were read
   abbrev Done : Type 0
-  Done = (b : List ℕ) → Reads v (place name tail.id) b → Becomes v e (place name tail.id) (appended b tail.gate (then_shut (behind tail.last f.time)))
+  Done = (b : List ℕ) → Reads v (place name tail.id) b → Becomes v e (place name tail.id) (appended b tail.gate (then_shut (behind tail.last entry)))
 
-  abbrev g : Appendable v name part tail.gate (behind tail.last f.time) ((part.last + 1, entry) ∷ [])
+  abbrev g : Appendable v name part tail.gate (behind tail.last entry) ((part.last + 1, entry) ∷ [])
   g = (appendable v name tail part bytes entry fits whole room f).0
 
-  becomes : Done → Becomes v e (place name part.id) (appended g.at_gate.bytes tail.gate (then_shut (behind tail.last f.time)))
-  becomes done = subst (λ (p : Place). Becomes v e p (appended g.at_gate.bytes tail.gate (then_shut (behind tail.last f.time)))) at
+  becomes : Done → Becomes v e (place name part.id) (appended g.at_gate.bytes tail.gate (then_shut (behind tail.last entry)))
+  becomes done = subst (λ (p : Place). Becomes v e p (appended g.at_gate.bytes tail.gate (then_shut (behind tail.last entry)))) at
       (done g.at_gate.bytes (subst (λ (p : Place). Reads v p g.at_gate.bytes) (sym at) g.at_gate.reads))
 
   pub push_held : EachHas v name (part ∷ []) → Done → EachHas e name (with_entry part entry ∷ [])
-  push_held each done = held_after v name part tail.gate (behind tail.last f.time) ((part.last + 1, entry) ∷ []) sound g e each (becomes done)
+  push_held each done = subst (λ (k : ℕ). EachHas e name (grown part ((part.last + 1, entry) ∷ []) k ∷ [])) long_is
+      (held_after v name part tail.gate (behind tail.last entry) ((part.last + 1, entry) ∷ []) sound g e each (becomes done))
 
   pub push_reads : Done → folder name e.reading tail.id ≡ Whole (with_entry part entry)
-  push_reads done = ap (folder name e.reading) (sym (appendable v name tail part bytes entry fits whole room f).1) ∙ reads_after v name part tail.gate (behind tail.last f.time) ((part.last + 1, entry) ∷ []) sound g e (becomes done)
+  push_reads done =
+      ap (folder name e.reading) (sym (appendable v name tail part bytes entry fits whole room f).1)
+      ∙ reads_after v name part tail.gate (behind tail.last entry) ((part.last + 1, entry) ∷ []) sound g e (becomes done)
+      ∙ ap (λ (k : ℕ). Whole (grown part ((part.last + 1, entry) ∷ []) k)) long_is
 
-  pub push_gate : Done → IsAtGate e (place name tail.id) (tail.gate + 22)
-  push_gate done = subst (λ (p : Place). IsAtGate e p (tail.gate + 22)) (sym at) (gate_after v name part tail.gate (behind tail.last f.time) ((part.last + 1, entry) ∷ []) sound g e (becomes done))
+  pub push_gate : Done → IsAtGate e (place name tail.id) (tail.gate + frame_size (tail.last + 1) entry)
+  push_gate done =
+      let long : 1 + length (behind tail.last entry) ≡ frame_size (tail.last + 1) entry = omega arith in
+      subst (λ (p : Place). IsAtGate e p (tail.gate + frame_size (tail.last + 1) entry)) (sym at)
+      (subst (λ (k : ℕ). IsAtGate e (place name part.id) (tail.gate + k)) long (gate_after v name part tail.gate (behind tail.last entry) ((part.last + 1, entry) ∷ []) sound g e (becomes done)))
 
   pub push_last : (with_entry part entry).last ≡ tail.last + 1
   push_last = ap (λ (k : ℕ). k + 1) (appendable v name tail part bytes entry fits whole room f).2
@@ -50,5 +65,5 @@ module _ (v e : View) (name : List ℕ) (tail : Tail) (part : Part) (bytes : Lis
   pub push_size : (with_entry part entry).size ≡ tail.size
   push_size = (appendable v name tail part bytes entry fits whole room f).3
 
-  pub push_end : (with_entry part entry).gate ≡ tail.gate + 22
-  push_end = ap (λ (k : ℕ). k + 22) g.gate_is
+  pub push_end : (with_entry part entry).gate ≡ tail.gate + frame_size (tail.last + 1) entry
+  push_end = ap (λ (k : ℕ). k + frame_size (part.last + 1) entry) g.gate_is ∙ ap (λ (k : ℕ). tail.gate + frame_size (k + 1) entry) (appendable v name tail part bytes entry fits whole room f).2

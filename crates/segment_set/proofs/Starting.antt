@@ -9,7 +9,7 @@ use Rattle.segment_files.specs.Parse.{Part}
 use Rattle.segment_files.specs.Folder.{EachHas}
 use Rattle.segment_set.specs.declared.parts.Tail.{Tail}
 use Rattle.segment_set.specs.Growth.{HasNoneOr, HasOrGains, new_tail}
-use Rattle.segment_set.specs.Fits.{Fits, IsFirstTail, IsFrameFor, IsHeld, IsTailAt, IsTailOf, StandsOrGains, TailFits, first_id, gained, last_of, log_of, parts_in, with_entry}
+use Rattle.segment_set.specs.Fits.{Fits, IsFirstTail, IsFrameFor, IsHeld, IsTailAt, IsTailOf, StandsOrGains, TailFits, first_id, frame_size, gained, last_of, log_of, parts_in, with_entry}
 use Rattle.segment_set.proofs.Gaining.{while_made, made_and_pushed, list_at, fits_at}
 
 pub fits_when_at : (v : View) (name : List ℕ) (tail : Tail) (p : Part) → IsTailAt v name tail p → TailFits v name tail
@@ -63,9 +63,9 @@ module _ (v : View) (name : List ℕ) (old : Option Tail) (greatest : ℕ) (none
     starts_held w next entry at each = subst (EachHas w name) (sym (list_at w name next (with_entry (new_tail tail.id size) entry) at.whole)) each
 
     pub left_starting : (m w : View) (entry : Entry) → LeavesOnly v m (HasNoneOr name (new_tail (first_id (greatest + 1)) size))
-        → LeavesOnly m w (HasOrGains name (new_tail tail.id size) (((new_tail tail.id size).last + 1, entry) ∷ []) 22)
+        → LeavesOnly m w (HasOrGains name (new_tail tail.id size) (((new_tail tail.id size).last + 1, entry) ∷ []) (frame_size ((new_tail tail.id size).last + 1) entry))
         → LeavesOnly v w (StandsOrGains name (log_of (parts_in v.reading name old)) entry)
     left_starting m w entry made pushed =
         subst (λ (l : List Entry). LeavesOnly v w (StandsOrGains name l entry)) (sym no_log)
         (made_and_pushed v m w name (first_id (greatest + 1)) size entry refl made
-        (subst (λ (i : FileId). LeavesOnly m w (HasOrGains name (new_tail i size) (((new_tail i size).last + 1, entry) ∷ []) 22)) first.id pushed))
+        (subst (λ (i : FileId). LeavesOnly m w (HasOrGains name (new_tail i size) (((new_tail i size).last + 1, entry) ∷ []) (frame_size ((new_tail i size).last + 1) entry))) first.id pushed))

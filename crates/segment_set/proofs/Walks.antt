@@ -3,8 +3,8 @@ use Rattle.std.proofs.Common.{◌≡◌, ℕ, zero, suc, ◌+◌, ◌<◌, ◌�
 use Rattle.std.proofs.lemmas.List.{take-take, take-append-le, drop-take, append-nil}
 use Rattle.std.proofs.lemmas.Bool.{ltb-false, le-ltb, eqb-true}
 use Rattle.std.specs.Int.{w32, from_be_bytes}
-use Rattle.segment_files.specs.Spelling.{Four, number_at}
-use Rattle.segment_files.specs.Parse.{Numbered, Body, Holds, Breaks, body, Frame, Framed, Crooked, framed, frame, Walk, Ends, Fails, behind_byte, behind_frame, go_on, is_next, frame_room, appended_walk}
+use Rattle.segment_files.specs.Numbers.{Four, number_at}
+use Rattle.segment_files.specs.Parse.{Numbered, Follows, Body, Holds, Breaks, body, Frame, Framed, Crooked, framed, frame, Walk, Ends, Fails, behind_byte, behind_frame, go_on, is_next, frame_room, appended_walk}
 
 -- a frame by its size, the bytes that are there, and its body
 abbrev form : ℕ → ℕ → Body → Frame
@@ -13,7 +13,7 @@ form size long b =
     else if not (nat_le 17 size && nat_le size 8388608) then Crooked 0
     else framed size long b
 
-pub frame_form : (follows : ℕ → ℕ → Bool) (room before : ℕ) (l : List ℕ) → frame follows room before l ≡ form (number_at Four 0 l) (length l) (body follows room before (take (number_at Four 0 l) (drop 4 l)))
+pub frame_form : (follows : Follows) (room before : ℕ) (l : List ℕ) → frame follows room before l ≡ form (number_at Four 0 l) (length l) (body follows room before (take (number_at Four 0 l) (drop 4 l)))
 unfolding frame
 frame_form follows room before l = refl
 
@@ -71,7 +71,7 @@ unfolding number_at
 numbers x y same = ap (λ (k : List ℕ). from_be_bytes w32 k) same
 
 -- A frame is read the same wherever its bytes stand.
-pub frame_same : (follows : ℕ → ℕ → Bool) (room before n : ℕ) (es : Numbered) (l c : List ℕ) → frame follows room before l ≡ Framed es n → take n c ≡ take n l → frame follows room before c ≡ Framed es n
+pub frame_same : (follows : Follows) (room before n : ℕ) (es : Numbered) (l c : List ℕ) → frame follows room before l ≡ Framed es n → take n c ≡ take n l → frame follows room before c ≡ Framed es n
 frame_same follows room before n es l c is same =
     let size = number_at Four 0 l in
     let f = fits size (length l) n es (body follows room before (take size (drop 4 l))) (sym (frame_form follows room before l) ∙ is) in
@@ -84,7 +84,7 @@ frame_same follows room before n es l c is same =
     ∙ ap (λ (x : List ℕ). form size (length c) (body follows room before x)) behind
     ∙ f.whole (length c) long
 
-pub frame_within : (follows : ℕ → ℕ → Bool) (room before n : ℕ) (es : Numbered) (l : List ℕ) → frame follows room before l ≡ Framed es n → n ≤ length l
+pub frame_within : (follows : Follows) (room before n : ℕ) (es : Numbered) (l : List ℕ) → frame follows room before l ≡ Framed es n → n ≤ length l
 frame_within follows room before n es l is =
     (fits (number_at Four 0 l) (length l) n es (body follows room before (take (number_at Four 0 l) (drop 4 l))) (sym (frame_form follows room before l) ∙ is)).within
 

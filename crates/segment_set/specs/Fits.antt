@@ -1,13 +1,13 @@
 -- What the parts of a log are on a disk that tells.
-use Rattle.std.specs.Prelude.{◌≡◌, ◌≢◌, ◌<◌, ◌≤◌, ◌⊎◌, ◌+◌, ◌^◌, ℕ, List, [], ◌∷◌, ◌++◌, map, Option, Some, None}
+use Rattle.std.specs.Prelude.{◌≡◌, ◌≢◌, ◌≤◌, ◌⊎◌, ◌+◌, ℕ, true, List, [], ◌∷◌, ◌++◌, length, map, Option, Some, None}
 use Rattle.host_types.specs.declared.entry.Entry.{Entry}
+use Rattle.entry_codec.specs.Spelled.{IsInRange, EntryFits}
 use Rattle.disk_model.specs.declared.file_id.FileId.{FileId}
 use Rattle.disk_model.specs.Image.{Place, Image, place}
 use Rattle.disk_model.specs.View.{View, MayLeave, IsListed}
 use Rattle.segment_files.specs.Files.{IsAtGate}
-use Rattle.segment_files.specs.Parse.{Numbered, Part, Found, Closed, Whole, Damaged}
+use Rattle.segment_files.specs.Parse.{Numbered, Part, Found, Closed, Whole, Damaged, is_built}
 use Rattle.segment_files.specs.Folder.{folder, entries_of, Stands, StandsForPrefix, EachHas}
-use Rattle.segment_files.specs.Spelling.{tick_at}
 use Rattle.segment_files.specs.Contents.{frame_bytes}
 use Rattle.segment_set.specs.Growth.{grown, new_tail}
 use Rattle.segment_set.specs.declared.parts.Tail.{Tail}
@@ -84,12 +84,16 @@ pub record IsMade (v : View) (name : List ℕ) (id : FileId) (size : ℕ) : Type
   pub whole : folder name v.reading id ≡ Whole (new_tail id size)
   pub at_gate : IsAtGate v (place name id) 64
 
--- a frame with the entry that comes next
+-- a frame with the entry that comes next, which a log may have
 pub record IsFrameFor (last : ℕ) (frame : List ℕ) (entry : Entry) : Type 0 where
-  pub time : ℕ
-  pub tick : entry ≡ tick_at time
-  pub time_fits : time < 2 ^ 64
-  pub bytes : frame ≡ frame_bytes (last + 1) entry
+  pub built : is_built entry.body ≡ true
+  pub range : IsInRange (last + 1) entry
+  pub fits : EntryFits entry
+  pub bytes : frame ≡ frame_bytes ((last + 1, entry) ∷ [])
+
+-- how many bytes a frame has with this entry alone
+abbrev pub frame_size : ℕ → Entry → ℕ
+frame_size index entry = length (frame_bytes ((index, entry) ∷ []))
 
 -- the tail is this part, and its first gate that isn't open stands where the next frame goes
 pub record IsTailAt (v : View) (name : List ℕ) (tail : Tail) (part : Part) : Type 0 where
@@ -99,9 +103,9 @@ pub record IsTailAt (v : View) (name : List ℕ) (tail : Tail) (part : Part) : T
   pub size : part.size ≡ tail.size
   pub at_gate : IsAtGate v (place name tail.id) tail.gate
 
--- a part with the next entry, in a frame of 22 bytes
+-- a part with the next entry, in a frame of its own
 abbrev pub with_entry : Part → Entry → Part
-with_entry part entry = grown part ((part.last + 1, entry) ∷ []) 22
+with_entry part entry = grown part ((part.last + 1, entry) ∷ []) (frame_size (part.last + 1) entry)
 
 -- the id of a log's first file
 abbrev pub first_id : ℕ → FileId

@@ -5,12 +5,11 @@ ghost use Rattle.host_types.specs.declared.entry.Entry.{Entry};
 ghost use Rattle.disk_model.specs.Image.{IsFileId, place};
 ghost use Rattle.disk_model.specs.View.{LeavesOnly, HasCause};
 ghost use Rattle.segment_files.specs.Files.{KeepsOthers};
-ghost use Rattle.segment_files.specs.Spelling.{tick_at};
 ghost use Rattle.segment_files.specs.Contents.{appended_descriptor, descriptor_bytes, frame_bytes};
 ghost use Rattle.segment_files.specs.Parse.{Part, Whole};
 ghost use Rattle.segment_files.specs.Folder.{EachHas, folder};
 ghost use Rattle.segment_set.specs.Growth.{HasNoneOr, HasOrGains, new_tail};
-ghost use Rattle.segment_set.specs.Fits.{Fits, IsEmptyWhereNone, IsFirstTail, IsFrameFor, IsHeld, IsMade, IsTailAt, KeepsNames, StandsOrGains, TailFits, first_id, gained, greatest_after, last_of, log_of, parts_in, with_entry};
+ghost use Rattle.segment_set.specs.Fits.{Fits, IsEmptyWhereNone, IsFirstTail, IsFrameFor, IsHeld, IsMade, IsTailAt, KeepsNames, StandsOrGains, TailFits, first_id, frame_size, gained, greatest_after, last_of, log_of, parts_in, with_entry};
 
 use crate::parts::{GENERATION_LIMIT, Parts, Tail};
 use disk_model::{Disk, DiskFault, FileId};
@@ -60,7 +59,7 @@ fn push_frame<D: Disk>(
     ensures grown { IfOk result (λ next. IsTrue D.tells → (part : Part) (entry : Entry) → folder name.now (D.view disk.old).reading tail.id ≡ Whole part → IsFrameFor tail.last frame.now entry
         → IsTailAt (D.view disk.new) name.now next (with_entry part entry)) }
     ensures any_moment { IsTrue D.tells → (part : Part) (entry : Entry) → folder name.now (D.view disk.old).reading tail.id ≡ Whole part → IsFrameFor tail.last frame.now entry
-        → EachHas (D.view disk.old) name.now (part ∷ []) → LeavesOnly (D.view disk.old) (D.view disk.new) (HasOrGains name.now part ((part.last + 1, entry) ∷ []) 22) }
+        → EachHas (D.view disk.old) name.now (part ∷ []) → LeavesOnly (D.view disk.old) (D.view disk.new) (HasOrGains name.now part ((part.last + 1, entry) ∷ []) (frame_size (part.last + 1) entry)) }
     ensures held { OnOk result (IsTrue D.tells → (part : Part) (entry : Entry) → folder name.now (D.view disk.old).reading tail.id ≡ Whole part → IsFrameFor tail.last frame.now entry
         → EachHas (D.view disk.old) name.now (part ∷ []) → EachHas (D.view disk.new) name.now (with_entry part entry ∷ [])) }
     ensures others { IsTrue D.tells → KeepsOthers (D.view disk.old) (D.view disk.new) (place name.now tail.id) }

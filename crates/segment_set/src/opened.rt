@@ -14,6 +14,6 @@ pub struct Opened {
     ghost generation_first: { 1 ≤ id.generation },
     ghost generation_last: { id.generation ≤ 281474976710655 },
     ghost last_is: { part.last ≡ id.base - 1 + part.entries },
-    ghost gate_is: { part.gate ≡ 64 + 22 * part.entries },
+    ghost gate_in_range: { part.gate ≤ 64 + 8388613 * part.entries },
     ghost few: { part.entries ≤ 4294967295 },
 }

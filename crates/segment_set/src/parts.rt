@@ -21,7 +21,8 @@ pub struct Tail {
     ghost generation_first: { 1 ≤ id.generation },
     ghost generation_last: { id.generation ≤ 281474976710655 },
     ghost last_in_range: { last ≤ 4294967295 },
-    ghost gate_in_range: { gate ≤ 64 + 22 * last },
+    // A frame takes 8,388,613 bytes at most.
+    ghost gate_in_range: { gate ≤ 64 + 8388613 * last },
 }
 
 /// The parts of a log.

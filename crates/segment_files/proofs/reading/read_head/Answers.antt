@@ -1,7 +1,7 @@
 use Rattle.std.proofs.Common.{◌≡◌, ℕ, List, sym, ap, ◌∙◌, refl, arith}
 use Rattle.segment_files.specs.Parse.{descriptor_fields, first_wrong}
 use Rattle.segment_files.specs.Contents.{appended_descriptor}
-use Rattle.segment_files.specs.Spelling.{Four, number_at}
+use Rattle.segment_files.specs.Numbers.{Four, number_at}
 use Rattle.segment_files.proofs.Scanning.{opened, filled, few, bad_head, short_head}
 use Rattle.segment_files.proofs.reading.read_head.Goals as goal
 

@@ -7,6 +7,6 @@ returns-clause-reads g c = λ t bytes reads.
     let into = c.in_ok-count.ensures.bytes t bytes reads in
     let window = take c.min-want.result c.args.buffer.now in
     let size : length c.read.new.buffer ≡ length window = c.read.auto.buffer in
-    piece bytes _ c.read.new.buffer c.args.at c.args.end c.in_ok-count.count (c.args.id.base - 1 + length c.args.entries.now.items) c.args.entries.now.items c.read_window.new.entries.items c.in_ok-walked.walked
+    piece bytes _ c.read.new.buffer c.args.at c.args.end c.in_ok-count.count (length c.args.buffer.now) (c.args.id.base - 1 + length c.args.entries.now.items) c.args.entries.now.items c.read_window.new.entries.items c.in_ok-walked.walked
     (c.requires.end t bytes reads) c.requires.within (sym size) (omega (arith, c.if-count-want.false, length-take c.min-want.result c.args.buffer.now))
-    (λ few. grind (arith, size, c.min-want.ensures, c.requires.buffer, length-take c.min-want.result c.args.buffer.now)) into c.in_ok-walked.ensures.reads
+    (λ few. grind (arith, size, c.min-want.ensures, length-take c.min-want.result c.args.buffer.now)) into c.in_ok-walked.ensures.reads

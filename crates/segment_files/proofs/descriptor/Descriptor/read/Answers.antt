@@ -1,6 +1,6 @@
 use Rattle.std.proofs.Common.{sym, ◌∙◌, arith}
 use Rattle.std.proofs.lemmas.Bool.{and_from, and_left, and_right, le-leb, lt-leb, eq-eqb, ne_eqb}
-use Rattle.segment_files.specs.Spelling.{Four, number_at}
+use Rattle.segment_files.specs.Numbers.{Four, number_at}
 use Rattle.segment_files.proofs.Descriptors.{right, not_marked, not_of, not_plain, no_size, not_ended}
 use Rattle.segment_files.proofs.descriptor.Descriptor.read.Goals as goal
 use Rattle.segment_files.proofs.descriptor.Descriptor.read.Goals.{then-not-is_marked-via-then-not-is_marked, then-not-is_marked-via-else-not-is_marked+then-not-is_of, then-not-is_marked-via-else-not-is_marked+else-not-is_of+then-not-is_plain}

@@ -6,7 +6,7 @@ use Rattle.segment_files.specs.Folder.{EachHas}
 use Rattle.segment_set.specs.Growth.{HasOrGains, new_tail}
 use Rattle.segment_set.specs.Fits.{IsFrameFor, IsTailAt, with_entry}
 use Rattle.segment_set.proofs.Starting.{fits_when_at, at_name, held_none, left_making, frame_first, starts_parts, starts_fits, starts_held, left_starting}
-use Rattle.segment_set.specs.Fits.{first_id}
+use Rattle.segment_set.specs.Fits.{first_id, frame_size}
 use Rattle.segment_set.proofs.Emptied.{not_listed, tail_listed}
 use Rattle.segment_set.proofs.parts.Parts.append_first.Goals as goal
 
@@ -86,7 +86,7 @@ returns-in-Ok-push_frame-clause-any_moment g c = λ t held entry f.
     let first = c.in-Ok.ensures.tail in
     let none = held_none v name old greatest c.requires.none held in
     left_starting v name old greatest c.requires.none tail size first m w entry (c.begin.ensures.any_moment t none)
-    (subst (λ (n : List ℕ). LeavesOnly m w (HasOrGains n (new_tail tail.id size) (((new_tail tail.id size).last + 1, entry) ∷ []) 22)) c.begin.ensures.name
+    (subst (λ (n : List ℕ). LeavesOnly m w (HasOrGains n (new_tail tail.id size) (((new_tail tail.id size).last + 1, entry) ∷ []) (frame_size ((new_tail tail.id size).last + 1) entry))) c.begin.ensures.name
     (c.push_frame.ensures.any_moment t (new_tail tail.id size) entry (at_name m name c.begin.new.self.name tail (new_tail tail.id size) c.begin.ensures.name (c.in-Ok.ensures.made t)).whole
     (frame_first v name old greatest c.requires.none tail size first c.args.frame.now entry f)
     (subst (λ (n : List ℕ). EachHas m n (new_tail tail.id size ∷ [])) (sym c.begin.ensures.name) (c.in-Ok.ensures.held t none))))
@@ -104,7 +104,7 @@ returns-in-Err-push_frame-clause-any_moment g c = λ t held entry f.
     let first = c.in-Ok.ensures.tail in
     let none = held_none v name old greatest c.requires.none held in
     left_starting v name old greatest c.requires.none tail size first m w entry (c.begin.ensures.any_moment t none)
-    (subst (λ (n : List ℕ). LeavesOnly m w (HasOrGains n (new_tail tail.id size) (((new_tail tail.id size).last + 1, entry) ∷ []) 22)) c.begin.ensures.name
+    (subst (λ (n : List ℕ). LeavesOnly m w (HasOrGains n (new_tail tail.id size) (((new_tail tail.id size).last + 1, entry) ∷ []) (frame_size ((new_tail tail.id size).last + 1) entry))) c.begin.ensures.name
     (c.push_frame.ensures.any_moment t (new_tail tail.id size) entry (at_name m name c.begin.new.self.name tail (new_tail tail.id size) c.begin.ensures.name (c.in-Ok.ensures.made t)).whole
     (frame_first v name old greatest c.requires.none tail size first c.args.frame.now entry f)
     (subst (λ (n : List ℕ). EachHas m n (new_tail tail.id size ∷ [])) (sym c.begin.ensures.name) (c.in-Ok.ensures.held t none))))
@@ -125,8 +125,8 @@ returns-in-Ok-push_frame-clause-empty g c = λ t held none.
     let size = c.args.size in
     let entry = c.requires.frame.0 in
     let f = subst (λ (k : ℕ). IsFrameFor k c.args.frame.now entry) (sym c.in-Ok.ensures.tail.last) c.requires.frame.1 in
-    absurd (tail_listed m w name (new_tail tail.id size) (((new_tail tail.id size).last + 1, entry) ∷ []) 22 (g.met.D.Disk.sound c.push_frame.new.disk t)
-    (subst (λ (n : List ℕ). LeavesOnly m w (HasOrGains n (new_tail tail.id size) (((new_tail tail.id size).last + 1, entry) ∷ []) 22)) c.begin.ensures.name
+    absurd (tail_listed m w name (new_tail tail.id size) (((new_tail tail.id size).last + 1, entry) ∷ []) (frame_size ((new_tail tail.id size).last + 1) entry) (g.met.D.Disk.sound c.push_frame.new.disk t)
+    (subst (λ (n : List ℕ). LeavesOnly m w (HasOrGains n (new_tail tail.id size) (((new_tail tail.id size).last + 1, entry) ∷ []) (frame_size ((new_tail tail.id size).last + 1) entry))) c.begin.ensures.name
     (c.push_frame.ensures.any_moment t (new_tail tail.id size) entry (at_name m name c.begin.new.self.name tail (new_tail tail.id size) c.begin.ensures.name (c.in-Ok.ensures.made t)).whole f
     (subst (λ (n : List ℕ). EachHas m n (new_tail tail.id size ∷ [])) (sym c.begin.ensures.name)
     (c.in-Ok.ensures.held t (held_none v name c.args.self.now.tail c.args.self.now.greatest c.requires.none held))))) none)
@@ -141,8 +141,8 @@ returns-in-Err-push_frame-clause-empty g c = λ t held none.
     let size = c.args.size in
     let entry = c.requires.frame.0 in
     let f = subst (λ (k : ℕ). IsFrameFor k c.args.frame.now entry) (sym c.in-Ok.ensures.tail.last) c.requires.frame.1 in
-    absurd (tail_listed m w name (new_tail tail.id size) (((new_tail tail.id size).last + 1, entry) ∷ []) 22 (g.met.D.Disk.sound c.push_frame.new.disk t)
-    (subst (λ (n : List ℕ). LeavesOnly m w (HasOrGains n (new_tail tail.id size) (((new_tail tail.id size).last + 1, entry) ∷ []) 22)) c.begin.ensures.name
+    absurd (tail_listed m w name (new_tail tail.id size) (((new_tail tail.id size).last + 1, entry) ∷ []) (frame_size ((new_tail tail.id size).last + 1) entry) (g.met.D.Disk.sound c.push_frame.new.disk t)
+    (subst (λ (n : List ℕ). LeavesOnly m w (HasOrGains n (new_tail tail.id size) (((new_tail tail.id size).last + 1, entry) ∷ []) (frame_size ((new_tail tail.id size).last + 1) entry))) c.begin.ensures.name
     (c.push_frame.ensures.any_moment t (new_tail tail.id size) entry (at_name m name c.begin.new.self.name tail (new_tail tail.id size) c.begin.ensures.name (c.in-Ok.ensures.made t)).whole f
     (subst (λ (n : List ℕ). EachHas m n (new_tail tail.id size ∷ [])) (sym c.begin.ensures.name)
     (c.in-Ok.ensures.held t (held_none v name c.args.self.now.tail c.args.self.now.greatest c.requires.none held))))) none)

@@ -1,5 +1,6 @@
 use Rattle.std.proofs.Common.{◌+◌, [], ◌∷◌, ℕ, sym, ap, ◌∙◌}
 use Rattle.segment_set.proofs.Advancing.{tail_fits, at_last, greatest_stays, frame_at, advances_parts, advances_fits, held_at, advances_held, advances_left}
+use Rattle.segment_set.specs.Fits.{frame_size}
 use Rattle.segment_set.proofs.Gaining.{keeps_names}
 use Rattle.segment_set.proofs.Emptied.{tail_listed}
 use Rattle.segment_set.proofs.parts.Parts.append_to.Goals as goal
@@ -69,7 +70,7 @@ returns-in-Ok-clause-empty g c = λ t held none.
     let old = c.args.self.now.tail in
     let greatest = c.args.self.now.greatest in
     let fits = tail_fits v name old greatest c.args.tail c.requires.tail (c.requires.fits t) in
-    absurd (tail_listed v w name fits.part ((fits.part.last + 1, c.requires.frame.0) ∷ []) 22 (g.met.D.Disk.sound c.push_frame.new.disk t)
+    absurd (tail_listed v w name fits.part ((fits.part.last + 1, c.requires.frame.0) ∷ []) (frame_size (fits.part.last + 1) c.requires.frame.0) (g.met.D.Disk.sound c.push_frame.new.disk t)
     (c.push_frame.ensures.any_moment t fits.part c.requires.frame.0 fits.whole c.requires.frame.1 (held_at v name old greatest c.args.tail c.requires.tail fits.part fits.whole held)) none)
 
 pub returns-in-Err-clause-empty : goal.returns-in-Err-clause-empty
@@ -80,5 +81,5 @@ returns-in-Err-clause-empty g c = λ t held none.
     let old = c.args.self.now.tail in
     let greatest = c.args.self.now.greatest in
     let fits = tail_fits v name old greatest c.args.tail c.requires.tail (c.requires.fits t) in
-    absurd (tail_listed v w name fits.part ((fits.part.last + 1, c.requires.frame.0) ∷ []) 22 (g.met.D.Disk.sound c.push_frame.new.disk t)
+    absurd (tail_listed v w name fits.part ((fits.part.last + 1, c.requires.frame.0) ∷ []) (frame_size (fits.part.last + 1) c.requires.frame.0) (g.met.D.Disk.sound c.push_frame.new.disk t)
     (c.push_frame.ensures.any_moment t fits.part c.requires.frame.0 fits.whole c.requires.frame.1 (held_at v name old greatest c.args.tail c.requires.tail fits.part fits.whole held)) none)

@@ -1,12 +1,13 @@
-use Rattle.std.proofs.Common.{◌≡◌, ◌+◌, ◌-◌, ◌*◌, ◌≤◌, length}
-use Rattle.segment_files.specs.Parse.{last_limit}
+use Rattle.std.proofs.Common.{◌+◌, ◌-◌, ◌*◌, ◌≤◌, length}
+use Rattle.host_types.specs.Limits.{last_limit}
+use Rattle.segment_files.specs.Contents.{frame_limit}
 use Rattle.segment_files.proofs.Walks.{Passed}
-use Rattle.segment_files.proofs.frames.read_window.Given as goal
+use Rattle.segment_files.proofs.windows.read_window.Given as goal
 
 abbrev pub invariant-loop-at : goal.invariant-loop-at
 invariant-loop-at l = record {
   few : length l.entries.items ≤ last_limit;
-  measured : l.at + 22 * length l.fn.entries.items ≡ 22 * length l.entries.items;
+  measured : l.at + frame_limit * length l.fn.entries.items ≤ frame_limit * length l.entries.items;
   passed : Passed l.window (l.base - 1 + length l.fn.entries.items) l.fn.entries.items l.entries.items l.at;
 }
 

@@ -1,0 +1,10 @@
+pub mod Bounds
+pub mod Cells
+pub mod Effects
+pub mod Entries
+pub mod Examples
+pub mod Fields
+pub mod Fronts
+pub mod Lists
+pub mod Replies
+pub mod Texts

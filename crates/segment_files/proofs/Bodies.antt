@@ -1,0 +1,218 @@
+-- How the entries of a frame's body are read, one after the other.
+use Rattle.std.proofs.Common.{◌≡◌, ℕ, zero, suc, ◌+◌, ◌-◌, ◌<◌, ◌≤◌, Bool, true, false, ◌&&◌, nat_eq, nat_le, List, [], ◌∷◌, ◌++◌, length, take, drop, Option, Some, None, refl, sym, ap, subst, ◌∙◌, arith, rules, if◌then◌else◌, append_assoc, length-append, length-take, length-drop}
+use Rattle.std.proofs.lemmas.List.{append-nil, drop-drop, drop_all, take_all}
+use Rattle.std.proofs.lemmas.Bool.{and_parts, eqb-true, leb-true}
+use Rattle.host_types.specs.Limits.{last_limit}
+use Rattle.host_types.specs.declared.entry.Entry.{Entry}
+use Rattle.entry_codec.specs.Spelled.{IsSpelledBy, number_spelled, body_spelled, spelled}
+use Rattle.std.specs.Int.{w64, to_be_bytes}
+use Rattle.entry_codec.specs.Reading.{Spelling, Spells, Spoils, spelling}
+use Rattle.segment_files.specs.Parse.{Numbered, Body, Holds, Breaks, Follows, with_entry, first_of, body, frame_room, is_built, is_next}
+use Rattle.segment_files.specs.Contents.{IsBroken, ReadsBody, ReadsNext}
+
+-- entries ahead of a body, and how many bytes they take
+abbrev pub in_front : Numbered → ℕ → Body → Body
+in_front ahead size (Holds entries) = Holds (ahead ++ entries)
+in_front ahead size (Breaks place) = Breaks (size + place)
+
+in_front_none : (d : Body) → d ≡ in_front [] 0 d
+in_front_none (Holds entries) = refl
+in_front_none (Breaks place) = ap (λ (k : ℕ). Breaks k) (omega arith)
+
+in_front_one : (index : ℕ) (entry : Entry) (size : ℕ) (d : Body) → with_entry index entry size d ≡ in_front ((index, entry) ∷ []) size d
+in_front_one index entry size (Holds entries) = refl
+in_front_one index entry size (Breaks place) = refl
+
+in_front_more : (es fs : Numbered) (a b : ℕ) (d : Body) → in_front es a (in_front fs b d) ≡ in_front (es ++ fs) (a + b) d
+in_front_more es fs a b (Holds entries) = ap (λ (x : Numbered). Holds x) (sym (append_assoc es fs entries))
+in_front_more es fs a b (Breaks place) = ap (λ (k : ℕ). Breaks k) (omega arith)
+
+broken_behind : (es : Numbered) (a : ℕ) (d : Body) → IsBroken d → IsBroken (in_front es a d)
+broken_behind es a (Holds entries) broken = broken
+broken_behind es a (Breaks place) broken = tt
+
+module _ (f : Follows) where
+  body_one : (room before x : ℕ) (l : List ℕ) → body f (suc room) before (x ∷ l) ≡ first_of f before (spelling (x ∷ l)) (λ index size. body f room index (drop size (x ∷ l)))
+  unfolding body
+  body_one room before x l = refl
+
+  body_full : (before x : ℕ) (l : List ℕ) → body f 0 before (x ∷ l) ≡ Breaks 0
+  unfolding body
+  body_full before x l = refl
+
+  pub body_end : (room before : ℕ) → body f room before [] ≡ Holds []
+  unfolding body
+  body_end zero before = refl
+  body_end (suc room) before = refl
+
+  -- where there are bytes left, and room
+  pub body_more : (room before : ℕ) (l : List ℕ) → 0 < length l → body f (suc room) before l ≡ first_of f before (spelling l) (λ index size. body f room index (drop size l))
+  body_more room before [] some = absurd (omega arith)
+  body_more room before (x ∷ l) some = body_one room before x l
+
+  -- where there is no room
+  body_no_room : (before : ℕ) (l : List ℕ) → 0 < length l → body f 0 before l ≡ Breaks 0
+  body_no_room before [] some = absurd (omega arith)
+  body_no_room before (x ∷ l) some = body_full before x l
+
+  -- a body that isn't empty has an entry
+  pub some_entry : (room before : ℕ) (l : List ℕ) (es : Numbered) → 0 < length l → body f room before l ≡ Holds es → 1 ≤ length es
+  some_entry zero before l es some is = absurd (cc (is, body_no_room before l some))
+  some_entry (suc room) before l es some is = by (spelling l) (sym (body_more room before l some) ∙ is)
+    where
+      K : ℕ → ℕ → Body
+      K index size = body f room index (drop size l)
+
+      last : (index : ℕ) (entry : Entry) (size : ℕ) (d : Body) → with_entry index entry size d ≡ Holds es → 1 ≤ length es
+      last index entry size (Holds more) is = let same : (index, entry) ∷ more ≡ es = cc in omega (arith, ap length same)
+      last index entry size (Breaks place) is = absurd (cc)
+
+      next : (index : ℕ) (entry : Entry) (size : ℕ) (t : Bool) → (if t then with_entry index entry size (body f room index (drop size l)) else Breaks 0) ≡ Holds es → 1 ≤ length es
+      next index entry size true is = last index entry size (body f room index (drop size l)) is
+      next index entry size false is = absurd (cc)
+
+      by : (s : Spelling) → first_of f before s (λ index size. body f room index (drop size l)) ≡ Holds es → 1 ≤ length es
+      by (Spoils place) is = absurd (cc)
+      by (Spells index entry size) is = next index entry size (f before index entry) is
+
+-- THE BODY, as far as it was read
+pub record BodyPassed (bytes : List ℕ) (before count at : ℕ) (old new : Numbered) : Type 0 where
+  pub more : Numbered
+  pub items : new ≡ old ++ more
+  pub few : count ≤ frame_room
+  pub long : length more ≡ count
+  pub within : at ≤ length bytes
+  pub walk : body is_next frame_room before bytes ≡ in_front more at (body is_next (frame_room - count) (before + count) (drop at bytes))
+
+pub body_start : (bytes : List ℕ) (before : ℕ) (old : Numbered) → BodyPassed bytes before 0 0 old old
+body_start bytes before old = record {
+  more = [];
+  items = sym (append-nil old);
+  few = omega arith;
+  long = refl;
+  within = omega arith;
+  walk = in_front_none (body is_next frame_room before bytes) ∙ ap (λ (k : ℕ). in_front [] 0 (body is_next frame_room k bytes)) (omega arith);
+}
+
+module _ (bytes : List ℕ) (before count at : ℕ) (old new : Numbered) (passed : BodyPassed bytes before count at old new) where
+  abbrev rest : List ℕ
+  rest = drop at bytes
+
+  left : at < length bytes → 0 < length rest
+  left lt = omega (arith, length-drop at bytes)
+
+  breaks_with : IsBroken (body is_next (frame_room - count) (before + count) rest) → IsBroken (body is_next frame_room before bytes)
+  breaks_with broken = subst (λ (d : Body). IsBroken d) (sym passed.walk) (broken_behind passed.more at (body is_next (frame_room - count) (before + count) rest) broken)
+
+  -- it goes on, and no entry may follow
+  pub breaks_full : at < length bytes → count ≡ frame_room → ReadsBody bytes before old new false
+  breaks_full lt full =
+      let none : frame_room - count ≡ 0 = omega (arith, full) in
+      record {
+        more = passed.more;
+        items = passed.items;
+        holds = λ is. absurd (search rules);
+        breaks = λ is. breaks_with (subst (λ (d : Body). IsBroken d) (sym (ap (λ (k : ℕ). body is_next k (before + count) rest) none ∙ body_no_room is_next (before + count) rest (left lt))) tt);
+      }
+
+  -- room for one more
+  one_less : count < frame_room → frame_room - count ≡ suc (frame_room - (count + 1))
+  one_less lt = omega arith
+
+  at_entry : at < length bytes → count < frame_room → body is_next (frame_room - count) (before + count) rest
+      ≡ first_of is_next (before + count) (spelling rest) (λ index size. body is_next (frame_room - (count + 1)) index (drop size rest))
+  at_entry lt room = ap (λ (k : ℕ). body is_next k (before + count) rest) (one_less room) ∙ body_more is_next (frame_room - (count + 1)) (before + count) rest (left lt)
+
+  room_left : (count ≡ frame_room → ⊥) → count < frame_room
+  room_left not_full = let few = passed.few in omega arith
+
+  -- no entry follows
+  pub breaks_next : at < length bytes → (count ≡ frame_room → ⊥) → (next : Numbered) → ReadsNext rest (before + count) new next None → ReadsBody bytes before old next false
+  breaks_next lt not_full next none = record {
+    more = passed.more;
+    items = none.1 ∙ passed.items;
+    holds = λ is. absurd (search rules);
+    breaks = λ is. breaks_with (subst (λ (d : Body). IsBroken d) (sym (at_entry lt (room_left not_full))) (none.0 (λ index size. body is_next (frame_room - (count + 1)) index (drop size rest))));
+  }
+
+  -- with the entry that follows
+  pub one_more : at < length bytes → (count ≡ frame_room → ⊥) → (next : Numbered) (size : ℕ) → ReadsNext rest (before + count) new next (Some size) → BodyPassed bytes before (count + 1) (at + size) old next
+  one_more lt not_full next size (entry, spells, fit, items, some, short) =
+      let es : Numbered = (before + count + 1, entry) ∷ [] in
+      let D = body is_next (frame_room - (count + 1)) (before + count + 1) (drop size rest) in
+      record {
+        more = passed.more ++ es;
+        items = items ∙ ap (λ (l : Numbered). l ++ es) passed.items ∙ append_assoc old passed.more es;
+        few = let room = room_left not_full in omega arith;
+        long = omega (arith, length-append passed.more es, passed.long);
+        within = omega (arith, short, length-drop at bytes, lt);
+        walk = passed.walk
+            ∙ ap (in_front passed.more at)
+            (at_entry lt (room_left not_full)
+            ∙ ap (λ (s : Spelling). first_of is_next (before + count) s (λ index size. body is_next (frame_room - (count + 1)) index (drop size rest))) spells
+            ∙ ap (λ (t : Bool). if t then with_entry (before + count + 1) entry size D else Breaks 0) fit
+            ∙ in_front_one (before + count + 1) entry size D)
+            ∙ in_front_more passed.more es at size D
+            ∙ ap (λ (k : ℕ). in_front (passed.more ++ es) (at + size) (body is_next (frame_room - (count + 1)) k (drop size rest))) (omega arith)
+            ∙ ap (λ (l : List ℕ). in_front (passed.more ++ es) (at + size) (body is_next (frame_room - (count + 1)) (before + (count + 1)) l)) (drop-drop size at bytes);
+      }
+
+  -- the entry that follows keeps the log within its limit
+  pub next_low : (next : Numbered) (size : ℕ) → ReadsNext rest (before + count) new next (Some size) → before + count + 1 ≤ last_limit
+  next_low next size (entry, spells, fit, items, some, short) =
+      let parts = and_parts (nat_eq (before + count + 1) (before + count + 1)) (nat_le (before + count + 1) last_limit && is_built entry.body) fit in
+      leb-true (before + count + 1) last_limit (and_parts (nat_le (before + count + 1) last_limit) (is_built entry.body) parts.1).0
+
+  -- to its end
+  pub holds_all : length bytes ≤ at → ReadsBody bytes before old new true
+  holds_all le = record {
+    more = passed.more;
+    items = passed.items;
+    holds = λ is. passed.walk
+        ∙ ap (λ (l : List ℕ). in_front passed.more at (body is_next (frame_room - count) (before + count) l)) (drop_all at bytes le)
+        ∙ ap (in_front passed.more at) (body_end is_next (frame_room - count) (before + count))
+        ∙ ap (λ (l : Numbered). Holds l) (append-nil passed.more);
+    breaks = λ is. absurd (cc);
+  }
+
+-- what an entry is that was read
+module _ (bytes : List ℕ) (before : ℕ) (old next : Numbered) where
+  pub spoils_next : (place : ℕ) → spelling bytes ≡ Spoils place → next ≡ old → ReadsNext bytes before old next None
+  spoils_next place spoils same = ((λ rest. subst (λ (s : Spelling). IsBroken (first_of is_next before s rest)) (sym spoils) tt), same)
+
+  module _ (index : ℕ) (entry : Entry) (size : ℕ) (spells : spelling bytes ≡ Spells index entry size) where
+    pub unfit_next : is_next before index entry ≡ false → next ≡ old → ReadsNext bytes before old next None
+    unfit_next unfit same = (
+      (λ rest. subst (λ (s : Spelling). IsBroken (first_of is_next before s rest)) (sym spells)
+          (subst (λ (t : Bool). IsBroken (if t then with_entry index entry size (rest index size) else Breaks 0)) (sym unfit) tt)),
+      same,
+    )
+
+    pub fit_next : is_next before index entry ≡ true → next ≡ old ++ (index, entry) ∷ [] → 1 ≤ size → size ≤ length bytes → ReadsNext bytes before old next (Some size)
+    fit_next fit items some short =
+        let parts = and_parts (nat_eq index (before + 1)) (nat_le index last_limit && is_built entry.body) fit in
+        let is : index ≡ before + 1 = eqb-true index (before + 1) parts.0 in (
+          entry,
+          subst (λ (k : ℕ). spelling bytes ≡ Spells k entry size) is spells,
+          subst (λ (k : ℕ). is_next before k entry ≡ true) is fit,
+          subst (λ (k : ℕ). next ≡ old ++ (k, entry) ∷ []) is items,
+          some,
+          short,
+        )
+
+some_spelled : (index : ℕ) (entry : Entry) → 1 ≤ length (spelled index entry)
+unfolding spelled number_spelled
+some_spelled index entry = omega (arith, length-append (to_be_bytes w64 index) (to_be_bytes w64 entry.time ++ body_spelled entry.body))
+
+-- an entry takes bytes
+pub some_bytes : (bytes : List ℕ) (index : ℕ) (entry : Entry) (size : ℕ) → IsSpelledBy (take size bytes) index entry → 1 ≤ size
+some_bytes bytes index entry size by = omega (arith, ap length by.exact, length-take size bytes, some_spelled index entry)
+
+-- all that stands behind a place
+all_behind : (bytes : List ℕ) (at : ℕ) → take (length bytes - at) (drop at bytes) ≡ drop at bytes
+all_behind bytes at = take_all (length bytes - at) (drop at bytes) (omega (arith, length-drop at bytes))
+
+-- what was read of the bytes from a place on
+pub next_at : (bytes : List ℕ) (at k : ℕ) (old new : Numbered) (o p : Option ℕ) → o ≡ p → ReadsNext (take (length bytes - at) (drop at bytes)) k old new o → ReadsNext (drop at bytes) k old new p
+next_at bytes at k old new o p is read =
+    subst (λ (l : List ℕ). ReadsNext l k old new p) (all_behind bytes at) (subst (λ (x : Option ℕ). ReadsNext (take (length bytes - at) (drop at bytes)) k old new x) is read)

@@ -1,0 +1,14 @@
+use Rattle.std.proofs.Common.{◌+◌, ◌-◌, ◌≤◌, length}
+use Rattle.host_types.specs.Limits.{last_limit}
+use Rattle.segment_files.proofs.Bodies.{BodyPassed}
+use Rattle.segment_files.proofs.windows.read_body.Given as goal
+
+abbrev pub invariant-loop-at : goal.invariant-loop-at
+invariant-loop-at l = record {
+  few : length l.entries.items ≤ last_limit;
+  counted : length l.entries.items ≤ l.before + l.count;
+  passed : BodyPassed l.body l.before l.count l.at l.fn.entries.items l.entries.items;
+}
+
+abbrev pub decreases-loop-at : goal.decreases-loop-at
+decreases-loop-at l = length l.body - l.at
