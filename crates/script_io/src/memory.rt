@@ -1,5 +1,5 @@
 // A source and a sink in memory, which fail at calls of given numbers.
-ghost use Rattle.std.specs.Prelude.{◌≡◌, ◌<◌, ◌≤◌, ◌↔◌, ◌++◌, ℕ, List, [], Some, length, take, IfOk, IsErr, OnErr, Contains};
+ghost use Rattle.std.specs.Prelude.{◌≡◌, ◌<◌, ◌≤◌, ◌↔◌, ◌++◌, ◌+◌, ◌-◌, ◌^◌, min, ℕ, List, [], Some, length, take, IfOk, IsErr, OnOk, OnErr, Contains};
 ghost use Rattle.script_io.specs.Streams.{HasCause, Takes};
 ghost use Rattle.script_io.specs.Memory.{next_call};
 
@@ -57,6 +57,8 @@ impl Source for MemorySource {
         ensures kept { (bytes : List ℕ) → Some self.old.bytes ≡ Some bytes → OnErr result (Some self.new.bytes ≡ Some bytes) }
         ensures cause { HasCause self.old.faults self.new.faults result }
         ensures fails { IsErr result ↔ Contains self.old.fails (next_call self.old) }
+        ensures counted { OnErr result (self.new.faults ≡ min (self.old.faults + 1) (2 ^ 64 - 1)) }
+        ensures uncounted { OnOk result (self.new.faults ≡ self.old.faults) }
         ensures calls { self.new.calls ≡ next_call self.old }
         ensures numbers { self.new.fails ≡ self.old.fails }
     {
@@ -130,6 +132,8 @@ impl Sink for MemorySink {
         ensures kept { (before : List ℕ) → Some self.old.bytes ≡ Some before → OnErr result (Some self.new.bytes ≡ Some before) }
         ensures cause { HasCause self.old.faults self.new.faults result }
         ensures fails { Contains self.old.fails (next_call self.old) → IsErr result }
+        ensures counted { OnErr result (self.new.faults ≡ min (self.old.faults + 1) (2 ^ 64 - 1)) }
+        ensures uncounted { OnOk result (self.new.faults ≡ self.old.faults) }
         ensures calls { self.new.calls ≡ next_call self.old }
         ensures numbers { self.new.fails ≡ self.old.fails }
     {
