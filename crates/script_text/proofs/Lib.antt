@@ -1,0 +1,9 @@
+pub mod FieldLemmas
+pub mod LineLemmas
+pub mod NumberLemmas
+pub mod OpLemmas
+pub mod PartLemmas
+pub mod PrintLemmas
+pub mod ShortLemmas
+pub mod SplitLemmas
+pub mod TableLemmas

@@ -1,0 +1,6 @@
+-- the words are those that came
+use Rattle.std.proofs.Common.{◌≡◌}
+use Rattle.script_text.proofs.reading.split_words.Given as goal
+
+abbrev pub invariant-loop-word : goal.invariant-loop-word
+invariant-loop-word l = l.words.items ≡ l.yielded
