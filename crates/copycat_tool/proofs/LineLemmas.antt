@@ -1,6 +1,6 @@
 -- Where a script is cut into lines.
 use Rattle.std.proofs.Common.{◌≡◌, ℕ, ◌==◌, ◌||◌, Bool, true, false, List, [], ◌∷◌, ◌++◌, refl, ap, sym, ◌∙◌, subst, if◌then◌else◌}
-use Rattle.log_model.specs.Script.{Lines, lines, byte_before, has_feed}
+use Rattle.copycat_tool.specs.Script.{Lines, lines, byte_before, has_feed}
 
 or_left : (a b : Bool) → (a || b) ≡ false → a ≡ false
 or_left true b e = e

@@ -7,8 +7,8 @@ use Rattle.disk_model.specs.Image.{Image}
 use Rattle.disk_model.specs.View.{View}
 use Rattle.log_model.specs.Log.{Item}
 use Rattle.log_model.specs.Layout.{Layout}
-use Rattle.log_model.specs.Script.{command, line_limit, script_limit}
-use Rattle.log_model.specs.Report.{Run, Report, Cut, Whole, Broken, Above, report, one, ends, in_front, last_piece, cut_of}
+use Rattle.copycat_tool.specs.Script.{command, line_limit, script_limit}
+use Rattle.copycat_tool.specs.Report.{Run, Report, Cut, Whole, Broken, Above, report, one, ends, in_front, last_piece, cut_of}
 use Rattle.log_model.specs.declared.Ending.{Ending}
 use Rattle.log_model.specs.declared.Ending.TheVariants.{Done, Fault, TooLong, ReadFault, WriteFault, DiskFault, NoMemory}
 use Rattle.copycat_tool.specs.Reading.{Finds, TakesMore, EndsAt, IsShort, IsTooLong}

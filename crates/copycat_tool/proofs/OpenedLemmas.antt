@@ -1,5 +1,5 @@
 -- Reading a file changes nothing of what is known of a disk.
-use Rattle.std.proofs.Common.{◌≡◌, inl, inr, ℕ, ◌+◌, ◌<◌, true, List, [], ◌∷◌, ◌++◌, map, fold, take, length, get_or, Option, Some, None, refl, sym, ap, subst, ◌∙◌}
+use Rattle.std.proofs.Common.{◌≡◌, inl, inr, ℕ, ◌+◌, ◌<◌, true, List, [], ◌∷◌, ◌++◌, fold, take, length, get_or, Option, Some, None, refl, sym, ap, subst, ◌∙◌}
 use Rattle.std.proofs.lemmas.List.{append-nil, take_more}
 use Rattle.std.proofs.lemmas.Bool.{cases_Bool}
 use Rattle.host_types.specs.declared.entry.Entry.{Entry}
@@ -17,19 +17,19 @@ use Rattle.segment_set.specs.Fits.{Fits, IsHeld, TailIs, bare, log_of, parts_in}
 use Rattle.segment_set.proofs.Appended.{parse_shut}
 use Rattle.segment_set.proofs.Gaining.{list_at}
 use Rattle.log_model.specs.Log.{State, start, step, folded}
-use Rattle.copycat_tool.specs.FileLogs.{IsReady, item_of, shown, time_behind}
+use Rattle.copycat_tool.specs.FileLogs.{IsReady, shown, time_behind}
 
 -- THE TIME
 
-time_from : (s : State) (es : Numbered) → (fold step s (map item_of (bare es))).now ≡ time_behind s.now es
+time_from : (s : State) (es : Numbered) → (fold step s (bare es)).now ≡ time_behind s.now es
 time_from s [] = refl
-time_from s (e ∷ es) = time_from (step s (item_of e.1)) es
+time_from s (e ∷ es) = time_from (step s e.1) es
 
 -- the time of a log is that of its last entry
 pub time_shown : (v : View) (name : List ℕ) (tail : Tail) (greatest : ℕ) (p : Part) → folder name v.reading tail.id ≡ Whole p → time_behind 0 p.entries ≡ (folded (shown v name (Some tail) greatest).log).now
 time_shown v name tail greatest p whole =
-    sym (ap (λ (ps : List Part). (folded (map item_of (log_of ps))).now) (list_at v name tail p whole)
-    ∙ ap (λ (es : Numbered). (folded (map item_of (bare es))).now) (append-nil p.entries)
+    sym (ap (λ (ps : List Part). (folded (log_of ps)).now) (list_at v name tail p whole)
+    ∙ ap (λ (es : Numbered). (folded (bare es)).now) (append-nil p.entries)
     ∙ time_from start p.entries)
 
 time_at_back : (now : ℕ) (es : Numbered) (e : ℕ × Entry) → time_behind now (es ++ e ∷ []) ≡ e.1.time
@@ -85,7 +85,7 @@ held_stays v w name tail stays held c may =
 pub ready_stays : (v w : View) (name : List ℕ) (tail : Option Tail) (greatest now : ℕ) → Stays v w → Fits v name tail greatest → now ≡ (folded (shown v name tail greatest).log).now → IsReady w name tail greatest now
 ready_stays v w name tail greatest now stays fits is = record {
   fits = fits_stays v w name tail greatest stays fits;
-  now_is = is ∙ ap (λ (r : Image). (folded (map item_of (log_of (parts_in r name tail)))).now) (sym stays.reading);
+  now_is = is ∙ ap (λ (r : Image). (folded (log_of (parts_in r name tail))).now) (sym stays.reading);
 }
 
 -- what was left on the way, and then while a file was read

@@ -4,7 +4,7 @@ use Rattle.std.proofs.lemmas.List.{append-nil}
 use Rattle.disk_model.specs.Image.{Image}
 use Rattle.disk_model.specs.View.{View, MayLeave}
 use Rattle.disk_model.proofs.Moments.{started}
-use Rattle.log_model.specs.Report.{Run, Report, in_front, opening, items, print_line}
+use Rattle.copycat_tool.specs.Report.{Run, Report, in_front, opening, items, print_line}
 use Rattle.log_model.specs.declared.Ending.{Ending}
 use Rattle.log_model.specs.declared.Ending.TheVariants.{WriteFault}
 use Rattle.copycat_tool.specs.Runs.{Files, HasPrefix, Ended}

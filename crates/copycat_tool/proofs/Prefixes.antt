@@ -5,7 +5,7 @@ use Rattle.std.proofs.lemmas.List.Sums.{fold-append}
 use Rattle.disk_model.specs.Image.{Image}
 use Rattle.log_model.specs.Log.{Item}
 use Rattle.log_model.specs.Layout.{Layout, with_entry, with_items}
-use Rattle.log_model.specs.Report.{Run, Answer, items, printed, print_line, with_log, after}
+use Rattle.copycat_tool.specs.Report.{Run, Answer, items, printed, print_line, with_log, after}
 use Rattle.copycat_tool.specs.Runs.{HasPrefix, OldOrNew}
 
 pub printed-append : (a b : List Answer) → printed (a ++ b) ≡ printed a ++ printed b

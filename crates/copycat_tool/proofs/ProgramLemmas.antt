@@ -1,7 +1,5 @@
 -- From the opening of a log to the end of the run over it.
-use Rattle.std.proofs.Common.{◌≡◌, ◌⊎◌, inl, inr, ℕ, ◌≤◌, List, [], ◌∷◌, ◌++◌, length, take, map, Option, Some, refl, sym, ap, subst, ◌∙◌, arith, Contains}
-use Rattle.std.proofs.lemmas.List.{length-map}
-use Rattle.std.specs.List.{take-map}
+use Rattle.std.proofs.Common.{◌≡◌, ◌⊎◌, inl, inr, ℕ, ◌≤◌, List, [], ◌∷◌, ◌++◌, length, take, Option, Some, refl, sym, ap, ◌∙◌, arith, Contains}
 use Rattle.host_types.specs.declared.entry.Entry.{Entry}
 use Rattle.disk_model.specs.declared.file_id.FileId.{FileId}
 use Rattle.disk_model.specs.Image.{Image}
@@ -17,40 +15,37 @@ use Rattle.segment_set.specs.declared.opening.OpenError.TheVariants.{Damaged as 
 use Rattle.segment_set.specs.Opening.{IsGreatestListed}
 use Rattle.segment_set.proofs.Images.{nothing, only_one}
 use Rattle.segment_set.proofs.Faultless.{no_fault}
-use Rattle.log_model.specs.Log.{Item, stored, entry_of}
-use Rattle.log_model.specs.Report.{Run, items}
-use Rattle.copycat_tool.specs.FileLogs.{Lies, StandsFor, item_of, shown}
-use Rattle.copycat_tool.specs.Logs.{items-stored, log_is, one_choice}
+use Rattle.log_model.specs.Log.{Item}
+use Rattle.copycat_tool.specs.Report.{Run, items}
+use Rattle.copycat_tool.specs.FileLogs.{Lies, StandsFor, shown}
+use Rattle.copycat_tool.specs.Logs.{log_is, one_choice}
 use Rattle.copycat_tool.specs.Shown.{choice_is, parts_are}
 use Rattle.copycat_tool.specs.Runs.{Files, HasPrefix, InOrder, Ran, RanSo, all_reported}
 use Rattle.copycat_tool.specs.Programs.{ClosesUnopened, OrAsBefore, damaged_line, unopened_line, unopened_status}
 
 -- ITEMS AND ENTRIES
 
-stored_take : (n : ℕ) (log : List Item) → take n (stored log) ≡ stored (take n log)
-stored_take n log = take-map entry_of n log
-
-pub to_entries : (v : View) (name : List ℕ) (log : List Item) (least : ℕ) → InOrder (StandsFor name) v log least → IsInOrder v name (stored log) least
+pub to_entries : (v : View) (name : List ℕ) (log : List Item) (least : ℕ) → InOrder (StandsFor name) v log least → IsInOrder v name log least
 to_entries v name log least order c may =
     let p = order c may in
     record {
       count = p.count;
       enough = p.enough;
-      within = omega (arith, p.within, length-map log entry_of);
-      stands = subst (λ (l : List Entry). Stands (folder name c) l) (sym (stored_take p.count log)) p.is;
+      within = p.within;
+      stands = p.is;
     }
 
-pub to_items : (name : List ℕ) (log : List Item) (least : ℕ) (c : Image) → StandsForPrefix name (stored log) least c → HasPrefix (StandsFor name) log least c
+pub to_items : (name : List ℕ) (log : List Item) (least : ℕ) (c : Image) → StandsForPrefix name log least c → HasPrefix (StandsFor name) log least c
 to_items name log least c p = record {
   count = p.count;
   enough = p.enough;
-  within = omega (arith, p.within, length-map log entry_of);
-  is = subst (λ (l : List Entry). Stands (folder name c) l) (stored_take p.count log) p.stands;
+  within = p.within;
+  is = p.stands;
 }
 
 -- what is left of the log is in order, item by item
-pub left_items : (v w : View) (name : List ℕ) (log : List Item) (least : ℕ) → LeavesOnly v w (StandsForPrefix name (stored log) least) → LeavesOnly v w (HasPrefix (StandsFor name) log least)
-left_items v w name log least only = weaker v w (StandsForPrefix name (stored log) least) (HasPrefix (StandsFor name) log least) only (to_items name log least)
+pub left_items : (v w : View) (name : List ℕ) (log : List Item) (least : ℕ) → LeavesOnly v w (StandsForPrefix name log least) → LeavesOnly v w (HasPrefix (StandsFor name) log least)
+left_items v w name log least only = weaker v w (StandsForPrefix name log least) (HasPrefix (StandsFor name) log least) only (to_items name log least)
 
 -- THE LOG THAT IS OPENED
 
@@ -61,16 +56,16 @@ pub record IsPrefix (log : List Item) (least : ℕ) (shows : List Item) : Type 0
   pub is : shows ≡ take count log
 
 pub opens_prefix : (v w : View) (name : List ℕ) (tail : Option Tail) (greatest : ℕ) (log : List Item) (least : ℕ) → IsSound w → Fits w name tail greatest
-    → LeavesOnly v w (StandsForPrefix name (stored log) least) → IsPrefix log least (shown w name tail greatest).log
+    → LeavesOnly v w (StandsForPrefix name log least) → IsPrefix log least (shown w name tail greatest).log
 opens_prefix v w name tail greatest log least sound fits only =
-    let s = has_now v w (StandsForPrefix name (stored log) least) sound only w.reading (λ q. own w sound q) in
+    let s = has_now v w (StandsForPrefix name log least) sound only w.reading (λ q. own w sound q) in
     let same : s.stands.parts ≡ parts_in w.reading name tail = one_choice (folder name w.reading) s.stands.parts (parts_in w.reading name tail) s.stands.choice (choice_is w name tail greatest fits) in
-    let entries : log_of (parts_in w.reading name tail) ≡ stored (take s.count log) = ap log_of (sym same) ∙ log_is s.stands.parts (take s.count (stored log)) s.stands.are ∙ stored_take s.count log in
+    let entries : log_of (parts_in w.reading name tail) ≡ take s.count log = ap log_of (sym same) ∙ log_is s.stands.parts (take s.count log) s.stands.are in
     record {
       count = s.count;
       enough = s.enough;
-      within = omega (arith, s.within, length-map log entry_of);
-      is = ap (map item_of) entries ∙ items-stored (take s.count log);
+      within = s.within;
+      is = entries;
     }
 
 pub lies_at_start : (v w : View) (name : List ℕ) (tail : Option Tail) (greatest : ℕ) → IsChoice (folder name v.reading) (parts_in w.reading name tail) → IsGreatestListed v name greatest → Lies name v.reading (shown w name tail greatest).layout
@@ -101,7 +96,7 @@ opened_no_fault v w name tail greatest id fits choice fault =
 pub in_order_no_fault : (v : View) (name : List ℕ) (log : List Item) (least : ℕ) (id : FileId) → IsSound v → InOrder (StandsFor name) v log least → IsFault (folder name v.reading) id → ⊥
 in_order_no_fault v name log least id sound order fault =
     let p = order v.reading (λ q. own v sound q) in
-    stands_no_fault v name (stored (take p.count log)) id p.is fault
+    stands_no_fault v name (take p.count log) id p.is fault
 
 -- what was written where the status says that a file is damaged
 pub damage_written : (name : List ℕ) (error : OpenError) (before : List ℕ) (written : Option (List ℕ)) (status : ℕ) → ClosesUnopened name error before written status → status ≡ 7

@@ -1,15 +1,13 @@
 -- How far a run has come, and how it ends from there.
-use Rattle.std.proofs.Common.{◌≡◌, ℕ, ◌+◌, ◌≤◌, List, [], ◌∷◌, ◌++◌, length, take, Option, false, refl, ap, sym, ◌∙◌, subst, arith, append_assoc, length-append}
-use Rattle.std.proofs.lemmas.List.{append-nil}
+use Rattle.std.proofs.Common.{◌≡◌, ℕ, ◌+◌, ◌≤◌, List, [], ◌∷◌, ◌++◌, length, take, false, refl, ap, sym, ◌∙◌, subst, arith, append_assoc, length-append}
 use Rattle.std.proofs.Math.Seq.{take-append-add, drop-append-add}
 use Rattle.disk_model.specs.Image.{Image}
 use Rattle.disk_model.specs.View.{View, MayLeave, LeavesOnly, IsSound}
 use Rattle.disk_model.proofs.Moments.{started, goes_further, weaker}
-use Rattle.host_types.specs.declared.entry.Offer.{Offer}
 use Rattle.log_model.specs.Log.{Item}
 use Rattle.log_model.specs.Layout.{Layout, alone}
-use Rattle.log_model.specs.Script.{has_feed}
-use Rattle.log_model.specs.Report.{Run, Answer, Report, Cut, report, one, in_front, answer, after, items, printed, print_line}
+use Rattle.copycat_tool.specs.Script.{has_feed}
+use Rattle.copycat_tool.specs.Report.{Run, Answer, Report, Cut, report, in_front, after, items, printed}
 use Rattle.log_model.specs.declared.Ending.{Ending}
 use Rattle.log_model.specs.declared.Ending.TheVariants.{Done, Fault, TooLong, ReadFault, WriteFault, DiskFault, NoMemory}
 use Rattle.copycat_tool.specs.Runs.{Files, files_of, IsKept, HasPrefix, Ended, EndsAs, WhereWhole, IsComplete, IsPartOfNext, Answered, sure}
@@ -86,30 +84,29 @@ module _ (files : Files) where
     pub one_more : (line : List ℕ) (run' : Run) (new : View) (more : List ℕ) → has_feed line ≡ false → Answered files line run run' now new more
         → SoFar files first run' (number + 1) (consumed ++ (line ++ 10 ∷ [])) old new (text ++ more)
     one_more line run' new more none answered =
-        let this = answer run answered.offer in
-        let log_more : run'.log ≡ run.log ++ items (this ∷ []) = ap (λ (r : Run). r.log) answered.run_is in
+        let these : List Answer = answered.answers in
+        let log_more : run'.log ≡ run.log ++ items these = ap (λ (r : Run). r.log) answered.so.run_is in
         record {
-          done = done ++ this ∷ [];
+          done = done ++ these;
           text_is = ap (λ (l : List ℕ). l ++ more) so_far.text_is
-              ∙ ap (λ (l : List ℕ). printed done ++ l) (answered.text_is ∙ sym (append-nil (print_line this)))
-              ∙ sym (printed-append done (this ∷ []));
-          run_is = answered.run_is
-              ∙ ap (λ (r : Run). after files.size r (this ∷ [])) so_far.run_is
-              ∙ after-append files.size first done (this ∷ []);
+              ∙ ap (λ (l : List ℕ). printed done ++ l) answered.so.text_is
+              ∙ sym (printed-append done these);
+          run_is = answered.so.run_is
+              ∙ ap (λ (r : Run). after files.size r these) so_far.run_is
+              ∙ after-append files.size first done these;
           goes_on = λ cut rest.
               ap (λ (l : List ℕ). report files.size first 1 cut l) (append_assoc consumed (line ++ 10 ∷ []) rest ∙ ap (λ (l : List ℕ). consumed ++ l) (append_assoc line (10 ∷ []) rest))
               ∙ so_far.goes_on cut (line ++ 10 ∷ rest)
               ∙ ap (λ (r : Report). in_front done r) (report_at files.size run number cut line rest none)
-              ∙ ap (λ (t : Option Offer). in_front done (one files.size t run number (λ run. report files.size run (number + 1) cut rest))) answered.is_offer
-              ∙ ap (λ (r : Run). in_front done (in_front (this ∷ []) (report files.size r (number + 1) cut rest))) (sym answered.run_is)
-              ∙ regroup this (report files.size run' (number + 1) cut rest);
+              ∙ ap (λ (r : Report). in_front done r) (answered.reported number (λ run. report files.size run (number + 1) cut rest))
+              ∙ regroup these (report files.size run' (number + 1) cut rest);
           any_moment = goes_further old now new (HasPrefix stands run'.log (length first.log))
-              (weaker old now _ _ so_far.any_moment (λ image has. subst (λ (l : List Item). HasPrefix stands l (length first.log) image) (sym log_more) (longer stands run.log (items (this ∷ [])) _ _ image (omega arith) has)))
-              (weaker now new _ _ answered.any_moment (λ image has. record { count = has.count; enough = omega (arith, shorter, has.enough); within = has.within; is = has.is }));
+              (weaker old now _ _ so_far.any_moment (λ image has. subst (λ (l : List Item). HasPrefix stands l (length first.log) image) (sym log_more) (longer stands run.log (items these) _ _ image (omega arith) has)))
+              (weaker now new _ _ answered.so.any_moment (λ image has. record { count = has.count; enough = omega (arith, shorter, has.enough); within = has.within; is = has.is }));
         }
       where
-        regroup : (this : Answer) (r : Report) → in_front done (in_front (this ∷ []) r) ≡ in_front (done ++ this ∷ []) r
-        regroup this r = ap (λ (l : List Answer). record { answers = l; ending = r.ending }) (sym (append_assoc done (this ∷ []) r.answers))
+        regroup : (these : List Answer) (r : Report) → in_front done (in_front these r) ≡ in_front (done ++ these) r
+        regroup these r = ap (λ (l : List Answer). record { answers = l; ending = r.ending }) (sym (append_assoc done these r.answers))
 
   -- what comes behind some answers
   module _ (first run : Run) (old now : View) (text : List ℕ) (done : List Answer) (text_is : text ≡ printed done) (run_is : run ≡ after files.size first done)

@@ -2,7 +2,7 @@
 use Rattle.std.proofs.Common.{◌≡◌, ℕ, ◌+◌, ◌-◌, ◌==◌, ◌||◌, Bool, true, false, List, [], ◌∷◌, ◌++◌, length, take, drop, ap, sym, ◌∙◌, subst, arith, append_assoc, length-append, length-drop, take-append-drop}
 use Rattle.std.proofs.lemmas.List.{drop-drop, take_all}
 use Rattle.std.proofs.Math.Seq.{take-add}
-use Rattle.log_model.specs.Script.{has_feed}
+use Rattle.copycat_tool.specs.Script.{has_feed}
 use Rattle.copycat_tool.specs.Reading.{EndsAt, TakesMore}
 
 pub takes_further : (left rest last held mid held' : List ℕ) (taken between taken' : ℕ)

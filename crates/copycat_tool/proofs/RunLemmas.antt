@@ -1,7 +1,7 @@
 -- The last line of a run.
 use Rattle.std.proofs.Common.{◌≡◌, inl, inr, ℕ, List, [], ◌++◌, length, take, Option, Some, refl, ap, ◌∙◌, subst, append_assoc}
 use Rattle.disk_model.specs.View.{View}
-use Rattle.log_model.specs.Report.{Run, Report, printed, last_line, items, status_of}
+use Rattle.copycat_tool.specs.Report.{Run, Report, printed, last_line, items, status_of}
 use Rattle.log_model.specs.declared.Ending.{Ending}
 use Rattle.log_model.specs.declared.Ending.TheVariants.{Fault, ReadFault, DiskFault, NoMemory}
 use Rattle.copycat_tool.specs.Runs.{Files, InOrder, Ended, Ran, Closes, all_reported}

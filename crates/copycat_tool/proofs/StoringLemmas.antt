@@ -1,73 +1,51 @@
--- What the disk shows once an offer is stored, and what a crash leaves on the way.
-use Rattle.std.proofs.Common.{◌≡◌, inl, inr, ⊎_elim, ℕ, ◌+◌, List, [], ◌∷◌, ◌++◌, map, Option, Some, None, refl, sym, ap, subst, ◌∙◌}
-use Rattle.std.proofs.lemmas.List.{map-append}
-use Rattle.host_types.specs.declared.entry.Offer.{Offer}
-use Rattle.host_types.specs.declared.entry.Ask.{Ask}
-use Rattle.host_types.specs.declared.entry.Ask.TheVariants.{Tick}
+-- What the disk shows once a tick is stored, and what a crash leaves on the way.
+use Rattle.std.proofs.Common.{◌≡◌, inl, ℕ, ◌+◌, List, Option, Some, None, refl, sym, ap, subst, ◌∙◌}
 use Rattle.host_types.specs.declared.entry.Entry.{Entry}
 use Rattle.disk_model.specs.Image.{Image}
 use Rattle.disk_model.specs.View.{View, IsSound, LeavesOnly}
 use Rattle.disk_model.proofs.Moments.{started, weaker}
 use Rattle.segment_files.specs.Parse.{Part}
-use Rattle.segment_files.specs.Folder.{folder, Stands}
-use Rattle.segment_files.specs.Spelling.{tick_at}
 use Rattle.segment_set.specs.declared.parts.Tail.{Tail}
-use Rattle.segment_set.specs.Fits.{Fits, IsHeld, StandsOrGains, first_id, gained, greatest_after, log_of, parts_in}
+use Rattle.segment_set.specs.Fits.{Fits, IsHeld, StandsOrGains, first_id, frame_size, gained, greatest_after, log_of, parts_in}
 use Rattle.segment_set.proofs.Gaining.{list_at}
-use Rattle.log_model.specs.Log.{Item, Given, State, folded, stored}
-use Rattle.log_model.specs.Report.{Run}
+use Rattle.log_model.specs.Log.{Item, State, tick_at, folded}
+use Rattle.copycat_tool.specs.Report.{Run}
 use Rattle.copycat_tool.specs.Runs.{OldOrNew}
-use Rattle.copycat_tool.specs.FileLogs.{IsReady, StandsFor, item_of, run_of, shown, with_one}
-use Rattle.copycat_tool.specs.Logs.{stored-items, folded-more}
+use Rattle.copycat_tool.specs.FileLogs.{IsReady, StandsFor, run_of, shown, with_one}
+use Rattle.copycat_tool.specs.Logs.{folded-more}
 use Rattle.copycat_tool.specs.Shown.{is_kept}
 use Rattle.copycat_tool.proofs.OfferLemmas.{run_grown, run_new}
 
-ask_is : (ask : Ask) → Tick ≡ ask
-ask_is Tick = refl
-
--- the item of the entry that is stored is what was offered
-tick_item : (offer : Offer) → item_of (tick_at offer.time) ≡ Given offer
-tick_item offer i = Given (record { time = offer.time; ask = ask_is offer.ask i })
-
 gains : (v : View) (name : List ℕ) (tail : Option Tail) (greatest size : ℕ) (entry : Entry) → Fits v name tail greatest
-    → run_of (gained size greatest (parts_in v.reading name tail) entry) (greatest_after tail greatest) ≡ with_one size (shown v name tail greatest) (item_of entry)
-gains v name None greatest size entry fits = run_new size greatest 22 (first_id (greatest + 1)) entry refl refl
+    → run_of (gained size greatest (parts_in v.reading name tail) entry) (greatest_after tail greatest) ≡ with_one size (shown v name tail greatest) entry
+gains v name None greatest size entry fits = run_new size greatest (frame_size 1 entry) (first_id (greatest + 1)) entry refl refl
 gains v name (Some tail) greatest size entry fits =
     let t = fits.tail_is in
-    subst (λ (ps : List Part). run_of (gained size greatest ps entry) greatest ≡ with_one size (run_of ps greatest) (item_of entry)) (sym (list_at v name tail t.part t.whole))
-    (run_grown size greatest 22 t.part entry)
+    subst (λ (ps : List Part). run_of (gained size greatest ps entry) greatest ≡ with_one size (run_of ps greatest) entry) (sym (list_at v name tail t.part t.whole))
+    (run_grown size greatest (frame_size (t.part.last + 1) entry) t.part entry)
 
-module _ (v : View) (name : List ℕ) (tail : Option Tail) (greatest now size : ℕ) (offer : Offer) (ready : IsReady v name tail greatest now) where
+module _ (v : View) (name : List ℕ) (tail : Option Tail) (greatest now size : ℕ) (time : ℕ) (ready : IsReady v name tail greatest now) where
   pub shows_more : (w : View) (name' : List ℕ) (tail' : Option Tail) (greatest' : ℕ) → name' ≡ name
-      → parts_in w.reading name tail' ≡ gained size greatest (parts_in v.reading name tail) (tick_at offer.time) → greatest' ≡ greatest_after tail greatest
-      → shown w name' tail' greatest' ≡ with_one size (shown v name tail greatest) (Given offer)
+      → parts_in w.reading name tail' ≡ gained size greatest (parts_in v.reading name tail) (tick_at time) → greatest' ≡ greatest_after tail greatest
+      → shown w name' tail' greatest' ≡ with_one size (shown v name tail greatest) (tick_at time)
   shows_more w name' tail' greatest' named parts is_greatest =
       ap (λ (n : List ℕ). shown w n tail' greatest') named
       ∙ (λ i. run_of (parts i) (is_greatest i))
-      ∙ gains v name tail greatest size (tick_at offer.time) ready.fits
-      ∙ ap (with_one size (shown v name tail greatest)) (tick_item offer)
+      ∙ gains v name tail greatest size (tick_at time) ready.fits
 
   pub stays_ready : (w : View) (name' : List ℕ) (tail' : Option Tail) (greatest' : ℕ) → name' ≡ name → Fits w name tail' greatest'
-      → shown w name' tail' greatest' ≡ with_one size (shown v name tail greatest) (Given offer) → IsReady w name' tail' greatest' offer.time
+      → shown w name' tail' greatest' ≡ with_one size (shown v name tail greatest) (tick_at time) → IsReady w name' tail' greatest' time
   stays_ready w name' tail' greatest' named fits more = record {
     fits = subst (λ (n : List ℕ). Fits w n tail' greatest') (sym named) fits;
-    now_is = sym (ap (λ (r : Run). (folded r.log).now) more ∙ ap (λ (s : State). s.now) (folded-more (shown v name tail greatest).log (Given offer)));
+    now_is = sym (ap (λ (r : Run). (folded r.log).now) more ∙ ap (λ (s : State). s.now) (folded-more (shown v name tail greatest).log (tick_at time)));
   }
 
   abbrev OldOrMore : Image → Type 0
-  OldOrMore = OldOrNew (StandsFor name) (shown v name tail greatest).log (with_one size (shown v name tail greatest) (Given offer)).log
+  OldOrMore = OldOrNew (StandsFor name) (shown v name tail greatest).log (with_one size (shown v name tail greatest) (tick_at time)).log
 
-  stored_more : stored ((shown v name tail greatest).log ++ Given offer ∷ []) ≡ log_of (parts_in v.reading name tail) ++ tick_at offer.time ∷ []
-  stored_more =
-      ap (λ (item : Item). stored (map item_of (log_of (parts_in v.reading name tail)) ++ item ∷ [])) (sym (tick_item offer))
-      ∙ ap stored (sym (map-append item_of (log_of (parts_in v.reading name tail)) (tick_at offer.time ∷ [])))
-      ∙ stored-items (log_of (parts_in v.reading name tail) ++ tick_at offer.time ∷ [])
-
-  pub leaves_more : (w : View) → LeavesOnly v w (StandsOrGains name (log_of (parts_in v.reading name tail)) (tick_at offer.time)) → LeavesOnly v w OldOrMore
-  leaves_more w only = weaker v w (StandsOrGains name (log_of (parts_in v.reading name tail)) (tick_at offer.time)) OldOrMore only
-      (λ c has. ⊎_elim
-      (λ same. inl (subst (λ (l : List Entry). Stands (folder name c) l) (sym (stored-items (log_of (parts_in v.reading name tail)))) same))
-      (λ more. inr (subst (λ (l : List Entry). Stands (folder name c) l) (sym stored_more) more)) has)
+  pub leaves_more : (w : View) → LeavesOnly v w (StandsOrGains name (log_of (parts_in v.reading name tail)) (tick_at time)) → LeavesOnly v w OldOrMore
+  leaves_more w only = weaker v w (StandsOrGains name (log_of (parts_in v.reading name tail)) (tick_at time)) OldOrMore only
+      (λ c has. has)
 
 -- a log that is held stays so, whatever else might come
 pub leaves_old : (v : View) (name : List ℕ) (tail : Option Tail) (greatest : ℕ) (other : List Item) → IsSound v → Fits v name tail greatest → IsHeld v name tail

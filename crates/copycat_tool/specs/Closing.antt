@@ -2,7 +2,7 @@
 use Rattle.std.specs.Prelude.{◌≡◌, ◌⊎◌, ℕ, List, ◌++◌, Option, Some}
 use Rattle.log_model.specs.declared.Ending.{Ending}
 use Rattle.log_model.specs.declared.Ending.TheVariants.{Fault, NoMemory}
-use Rattle.log_model.specs.Report.{last_line, printed, status_of}
+use Rattle.copycat_tool.specs.Report.{last_line, printed, status_of}
 use Rattle.copycat_tool.specs.Runs.{Closes}
 
 -- The last line of this ending was written. Where no memory was left for the line of a fault in the script, that is told in its stead.

@@ -1,10 +1,6 @@
 -- The log that the files of a folder show, and how they lie.
 use Rattle.std.specs.Prelude.{◌≡◌, ◌≤◌, ◌⊎◌, ℕ, List, [], ◌∷◌, ◌++◌, map, Option, Some, Contains}
-use Rattle.host_types.specs.declared.entry.Ask.{Ask}
-use Rattle.host_types.specs.declared.entry.Ask.TheVariants.{Tick}
 use Rattle.host_types.specs.declared.entry.Entry.{Entry}
-use Rattle.host_types.specs.declared.entry.Body.{Body}
-use Rattle.host_types.specs.declared.entry.Body.TheVariants.{Tick as Ticked}
 use Rattle.disk_model.specs.declared.file_id.FileId.{FileId}
 use Rattle.disk_model.specs.Image.{Image, place}
 use Rattle.disk_model.specs.View.{View}
@@ -12,27 +8,20 @@ use Rattle.segment_files.specs.Parse.{Numbered, Part}
 use Rattle.segment_files.specs.Folder.{folder, IsChoice, Stands}
 use Rattle.segment_set.specs.declared.parts.Tail.{Tail}
 use Rattle.segment_set.specs.Fits.{Fits, log_of, parts_in}
-use Rattle.log_model.specs.Log.{Item, Given, folded, stored}
+use Rattle.log_model.specs.Log.{Item, folded}
 use Rattle.log_model.specs.Layout.{PartLayout, Layout, with_entry}
-use Rattle.log_model.specs.Report.{Run}
-
-abbrev pub ask_of : Body → Ask
-ask_of Ticked = Tick
-
--- the item that was stored as this entry
-abbrev pub item_of : Entry → Item
-item_of entry = Given (record { time = entry.time; ask = ask_of entry.body })
+use Rattle.copycat_tool.specs.Report.{Run}
 
 abbrev pub part_layout : Part → PartLayout
 part_layout p = record { base = p.id.base; last = p.last; present = map (λ (e : ℕ × Entry). e.0) p.entries; cut = p.cut; floor = p.floor; generation = p.id.generation; size = p.size; rewritten = p.rewritten }
 
 -- the run that stands at these parts, where this is the greatest generation that was seen
 abbrev pub run_of : List Part → ℕ → Run
-run_of parts greatest = record { log = map item_of (log_of parts); layout = record { parts = map part_layout parts; greatest = greatest } }
+run_of parts greatest = record { log = log_of parts; layout = record { parts = map part_layout parts; greatest = greatest } }
 
 -- under this name an image stands for this log
 abbrev pub StandsFor : List ℕ → Image → List Item → Type 0
-StandsFor name image log = Stands (folder name image) (stored log)
+StandsFor name image log = Stands (folder name image) log
 
 -- a file of the name is there
 abbrev pub IsThere : Image → List ℕ → FileId → Type 0

@@ -2,7 +2,9 @@ pub mod Closing
 pub mod FileLogs
 pub mod Programs
 pub mod Reading
+pub mod Report
 pub mod Runs
 pub mod Logs
+pub mod Script
 pub mod Shown
 pub mod Words

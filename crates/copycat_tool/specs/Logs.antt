@@ -1,37 +1,12 @@
 -- The log that the files of a folder show, entry by entry.
-use Rattle.std.proofs.Common.{◌≡◌, ℕ, ◌+◌, List, [], ◌∷◌, ◌++◌, length, map, refl, sym, ap, ◌∙◌, arith, fold}
+use Rattle.std.proofs.Common.{◌≡◌, ℕ, ◌+◌, List, [], ◌∷◌, ◌++◌, length, refl, sym, ap, ◌∙◌, arith, fold}
 use Rattle.std.specs.List.{enumerate_from}
-use Rattle.host_types.specs.declared.entry.Ask.{Ask}
-use Rattle.host_types.specs.declared.entry.Ask.TheVariants.{Tick}
 use Rattle.host_types.specs.declared.entry.Entry.{Entry}
-use Rattle.host_types.specs.declared.entry.Body.{Body}
-use Rattle.host_types.specs.declared.entry.Body.TheVariants.{Tick as Ticked}
 use Rattle.segment_files.specs.Parse.{Part}
 use Rattle.segment_files.specs.Folder.{Folder, IsChoice, AreOf}
 use Rattle.segment_set.specs.Fits.{bare, log_of}
 use Rattle.segment_set.proofs.Images.{nothing, only_one, here}
-use Rattle.log_model.specs.Log.{Item, Given, State, start, step, folded, stored, entry_of, body_of}
-use Rattle.copycat_tool.specs.FileLogs.{ask_of, item_of}
-
-body_back : (b : Body) → body_of (ask_of b) ≡ b
-body_back Ticked = refl
-
-ask_back : (a : Ask) → ask_of (body_of a) ≡ a
-ask_back Tick = refl
-
--- what is stored of the items is the entries
-pub stored-items : (es : List Entry) → stored (map item_of es) ≡ es
-stored-items [] = refl
-stored-items (e ∷ es) =
-    let one : entry_of (item_of e) ≡ e = λ i. record { time = e.time; body = body_back e.body i } in
-    ap (λ (x : Entry). x ∷ stored (map item_of es)) one ∙ ap (λ (l : List Entry). e ∷ l) (stored-items es)
-
--- and back
-pub items-stored : (log : List Item) → map item_of (stored log) ≡ log
-items-stored [] = refl
-items-stored (Given offer ∷ log) =
-    let one : item_of (entry_of (Given offer)) ≡ Given offer = λ i. Given (record { time = offer.time; ask = ask_back offer.ask i }) in
-    ap (λ (x : Item). x ∷ map item_of (stored log)) one ∙ ap (λ (l : List Item). Given offer ∷ l) (items-stored log)
+use Rattle.log_model.specs.Log.{Item, State, start, step, folded}
 
 pub bare-enumerate : (n : ℕ) (log : List Entry) → bare (enumerate_from n log) ≡ log
 bare-enumerate n [] = refl

@@ -8,7 +8,7 @@ use Rattle.segment_files.specs.Folder.{folder, IsFault}
 use Rattle.segment_set.specs.declared.opening.OpenError.{OpenError}
 use Rattle.segment_set.specs.declared.opening.OpenError.TheVariants.{Disk, Damaged, NoMemory}
 use Rattle.log_model.specs.Log.{Item}
-use Rattle.log_model.specs.Report.{Run}
+use Rattle.copycat_tool.specs.Report.{Run}
 use Rattle.copycat_tool.specs.FileLogs.{Lies, LiesAlone, StandsFor}
 use Rattle.copycat_tool.specs.Runs.{Closes, HasPrefix, RanSo, files_of}
 

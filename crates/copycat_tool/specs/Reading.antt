@@ -1,6 +1,6 @@
 -- What a reader of lines holds, and what it finds there.
 use Rattle.std.specs.Prelude.{◌≡◌, ◌<◌, ◌≤◌, ℕ, ◌+◌, List, [], ◌∷◌, ◌++◌, length, take, drop, Option, Some, false, Result, Ok, Err}
-use Rattle.log_model.specs.Script.{has_feed, line_limit, script_limit}
+use Rattle.copycat_tool.specs.Script.{has_feed, line_limit, script_limit}
 use Rattle.copycat_tool.specs.declared.reader.Piece.{Piece}
 use Rattle.copycat_tool.specs.declared.reader.Piece.TheVariants.{Line, Last, Long, Above}
 use Rattle.copycat_tool.specs.declared.reader.ReadError.{ReadError}

@@ -4,11 +4,10 @@ use Rattle.disk_model.specs.Image.{Place, Image}
 use Rattle.disk_model.specs.View.{View, MayLeave, LeavesOnly}
 use Rattle.log_model.specs.declared.Ending.{Ending}
 use Rattle.log_model.specs.declared.Ending.TheVariants.{Done, Fault, TooLong, ReadFault, WriteFault, DiskFault, NoMemory}
-use Rattle.host_types.specs.declared.entry.Offer.{Offer}
 use Rattle.log_model.specs.Log.{Item}
 use Rattle.log_model.specs.Layout.{Layout, alone}
-use Rattle.log_model.specs.Script.{script_limit, command}
-use Rattle.log_model.specs.Report.{Run, Answer, answer, items, print_line, printed, after, Report, Broken, report, cut_of, in_front, opening, last_line, status_of}
+use Rattle.copycat_tool.specs.Script.{script_limit, command}
+use Rattle.copycat_tool.specs.Report.{Run, Answer, items, one, print_line, printed, after, Report, Broken, report, cut_of, in_front, opening, last_line, status_of}
 
 -- files of other names read as before
 abbrev pub KeepsOtherNames : View → View → List ℕ → Type 0
@@ -113,13 +112,17 @@ pub record EndedSo (files : Files) (run : Run) (told : Report) (leaves : (Image 
 abbrev pub Ended : Files → Run → Report → View → View → List ℕ → Ending → Type 0
 Ended files run told old new text ending = EndedSo files run told (LeavesOnly old new) new text ending
 
--- a line was answered
-pub record Answered (files : Files) (line : List ℕ) (run run' : Run) (old new : View) (text : List ℕ) : Type 0 where
-  pub offer : Offer
-  pub is_offer : command line ≡ Some offer
-  pub text_is : text ≡ print_line (answer run offer)
-  pub run_is : run' ≡ after files.size run (answer run offer ∷ [])
+-- these answers were written, and their items stored
+pub record AnsweredSo (files : Files) (answers : List Answer) (run run' : Run) (old new : View) (text : List ℕ) : Type 0 where
+  pub text_is : text ≡ printed answers
+  pub run_is : run' ≡ after files.size run answers
   pub any_moment : LeavesOnly old new (HasPrefix files.stands run'.log (length run.log))
+
+-- a line was answered, and the run goes on
+pub record Answered (files : Files) (line : List ℕ) (run run' : Run) (old new : View) (text : List ℕ) : Type 0 where
+  pub answers : List Answer
+  pub reported : (number : ℕ) (rest : Run → Report) → one files.size (command line) run number rest ≡ in_front answers (rest run')
+  pub so : AnsweredSo files answers run run' old new text
 
 -- what came of a script, of which this is left
 abbrev pub came : List ℕ → Option (List ℕ) → List ℕ

@@ -1,12 +1,12 @@
 -- The log that a disk shows, where it fits what is remembered of it.
 use Rattle.std.proofs.Common.{◌≡◌, ◌⊎◌, inl, inr, ℕ, ◌+◌, List, [], ◌∷◌, length, map, Option, Some, None, is_none, refl, sym, ap, subst, ◌∙◌, arith, Contains}
-use Rattle.std.proofs.lemmas.List.{length-map, append-nil}
+use Rattle.std.proofs.lemmas.List.{append-nil}
 use Rattle.host_types.specs.declared.entry.Entry.{Entry}
 use Rattle.disk_model.specs.declared.file_id.FileId.{FileId}
 use Rattle.disk_model.specs.Image.{Image, place}
 use Rattle.disk_model.specs.View.{View, MayLeave, IsListed}
 use Rattle.segment_files.specs.Parse.{Part, Closed, Whole, Damaged}
-use Rattle.segment_files.specs.Folder.{found, folder, IsChoice, AreOf, Stands}
+use Rattle.segment_files.specs.Folder.{found, folder, IsChoice, AreOf}
 use Rattle.segment_set.specs.declared.parts.Tail.{Tail}
 use Rattle.segment_set.specs.Fits.{Fits, IsEmptyWhereNone, IsHeld, bare, log_of, last_of, parts_in}
 use Rattle.segment_set.proofs.AreLogs.{are_none, are_one}
@@ -16,8 +16,8 @@ use Rattle.segment_set.proofs.Gaining.{whole_plain, list_at}
 use Rattle.segment_set.proofs.Emptied.{held_empty}
 use Rattle.log_model.specs.Log.{folded}
 use Rattle.log_model.specs.Layout.{PartLayout, alone, greatest_of, needs_file}
-use Rattle.copycat_tool.specs.FileLogs.{IsGreatest, IsThere, LiesAlone, StandsFor, item_of, part_layout, shown}
-use Rattle.copycat_tool.specs.Logs.{stored-items, folded_last}
+use Rattle.copycat_tool.specs.FileLogs.{IsGreatest, IsThere, LiesAlone, StandsFor, part_layout, shown}
+use Rattle.copycat_tool.specs.Logs.{folded_last}
 
 -- a part that is read whole and begins with the first entry is a log
 one_is : (v : View) (name : List ℕ) (tail : Tail) (p : Part) → folder name v.reading tail.id ≡ Whole p → AreOf (p ∷ []) (log_of (p ∷ []))
@@ -41,7 +41,7 @@ log_length v name (Some tail) greatest fits =
     ap (λ (ps : List Part). length (log_of ps)) (list_at v name tail t.part t.whole) ∙ omega (arith, next, t.last)
 
 pub last_is : (v : View) (name : List ℕ) (tail : Option Tail) (greatest : ℕ) → Fits v name tail greatest → length (shown v name tail greatest).log ≡ last_of tail
-last_is v name tail greatest fits = length-map (log_of (parts_in v.reading name tail)) item_of ∙ log_length v name tail greatest fits
+last_is v name tail greatest fits = log_length v name tail greatest fits
 
 pub folded_last_is : (v : View) (name : List ℕ) (tail : Option Tail) (greatest : ℕ) → Fits v name tail greatest → (folded (shown v name tail greatest).log).last ≡ last_of tail
 folded_last_is v name tail greatest fits = folded_last (shown v name tail greatest).log ∙ last_is v name tail greatest fits
@@ -108,8 +108,7 @@ greatest_is v name (Some tail) greatest fits =
 -- what a crash leaves stands for the log that is shown
 pub is_kept : (v : View) (name : List ℕ) (tail : Option Tail) (greatest : ℕ) → Fits v name tail greatest → IsHeld v name tail → (image : Image) → MayLeave v image → StandsFor name image (shown v name tail greatest).log
 is_kept v name tail greatest fits held image may =
-    subst (λ (l : List Entry). Stands (folder name image) l) (sym (stored-items (log_of (parts_in v.reading name tail))))
-    (record { parts = parts_in v.reading name tail; choice = held image may; are = parts_are v name tail greatest fits })
+    record { parts = parts_in v.reading name tail; choice = held image may; are = parts_are v name tail greatest fits }
 
 only_is : (v : View) (name : List ℕ) (tail : Option Tail) (greatest : ℕ) → Fits v name tail greatest → (id : FileId) → IsThere v.reading name id
     → (p : PartLayout) × Contains (map part_layout (parts_in v.reading name tail)) p × (p.base ≡ id.base) × (p.generation ≡ id.generation)

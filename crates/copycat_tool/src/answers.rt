@@ -1,7 +1,7 @@
 // The lines of a script, one after the other.
 ghost use Rattle.std.specs.Prelude.{◌≡◌, ◌<◌, ◌≤◌, ◌++◌, ℕ, List, Option, Some, IsTrue};
 ghost use Rattle.script_io.specs.Streams.{Rose};
-ghost use Rattle.log_model.specs.Report.{Whole, last_piece};
+ghost use Rattle.copycat_tool.specs.Report.{Whole, last_piece};
 ghost use Rattle.copycat_tool.specs.Runs.{Ended, KeepsOtherNames, all_reported, files_of, reported};
 
 use crate::log::TickLog;
@@ -111,7 +111,7 @@ pub fn answer_script<I: Source, T: TickLog, O: Sink>(
     let Ok(text) = opening_text(alloc, log.last()) else {
         return Ending::NoMemory;
     };
-    match put_all(out, text.as_bytes()) {
+    match put_all(out, &text) {
         Ok(()) => answer_lines(alloc, script, log, out),
         Err(_) => Ending::WriteFault,
     }

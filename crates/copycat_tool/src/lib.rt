@@ -23,4 +23,4 @@ pub use file_log::FileLog;
 pub use log::TickLog;
 pub use opening::{Start, open_log};
 pub use program::run;
-pub use words::{USAGE, read_words};
+pub use words::{Asked, USAGE, read_words};

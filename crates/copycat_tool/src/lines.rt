@@ -1,59 +1,51 @@
-// Reads a line of a script.
-ghost use Rattle.std.specs.Prelude.{◌≡◌, ◌<◌, ◌^◌};
-ghost use Rattle.log_model.specs.Script.{command, number, number_from, tick_of};
+// What a line of a script asks of the program.
+ghost use Rattle.std.specs.Prelude.{◌≡◌, Some, None, IfOk};
+ghost use Rattle.copycat_tool.specs.Script.{command, if_line};
+ghost use Rattle.script_text.specs.Reading.{line_read};
 
-use host_types::{Ask, Offer, Time};
+use host_types::{Ask, NoMemory, Offer, Time};
+use script_text::{Line, LineFault, read_line};
+use std::alloc::Global;
 
 /// The longest line, without its line feed.
 pub const LINE_LIMIT: usize = 16384;
 
-/// The number that these digits make, up to the greatest of 64 bits.
-fn digits(bytes: &[u8]) -> Option<u64>
-    ensures { result ≡ number_from 0 bytes.now }
-{
-    let mut n: u64 = 0;
-    for byte in bytes {
-        if !byte.is_ascii_digit() {
-            return None;
-        }
-        n = n.checked_mul(10)?.checked_add(u64::from(*byte - b'0'))?;
-    }
-    Some(n)
+/// What a line asks.
+#[derive(Clone, Copy, Debug, PartialEq, Eq)]
+pub enum Command {
+    /// Nothing: it is empty, or a comment.
+    Skip,
+    /// To store a tick at this time.
+    Tick { time: Time },
 }
 
-/// A number: decimal, without leading zeros.
-fn read_number(bytes: &[u8]) -> Option<u64>
-    ensures { result ≡ number bytes.now }
-{
-    if bytes.is_empty() || (bytes.len() > 1 && bytes[0] == b'0') {
-        return None;
-    }
-    digits(bytes)
-}
-
-/// The tick of a line `tick T`.
-fn read_tick(line: &[u8]) -> Option<Offer>
-    ensures { result ≡ tick_of line.now }
+/// The command of a line of the language, if it is built.
+fn command_of(line: &Line) -> Option<Command>
+    ensures { result ≡ if_line (Some line.now) }
 {
     match line {
-        [b't', b'i', b'c', b'k', b' ', rest @ ..] => {
-            let time: Time = read_number(rest)?;
-            Some(Offer {
+        Line::Skip => Some(Command::Skip),
+        Line::Offer(
+            Offer {
                 time,
                 ask: Ask::Tick,
-            })
-        }
+            },
+        ) => Some(Command::Tick { time: *time }),
         _ => None,
     }
 }
 
-/// What a line of a script offers, if it is in the grammar (`docs/script.md`).
-#[tactic(auto, unfolding(log_model::specs::Script::command))]
-pub fn read_command(line: &[u8]) -> Option<Offer>
-    ensures { result ≡ command line.now }
+/// What a line of a script asks, if it is in the grammar (`docs/script.md`) and its command is built.
+#[tactic(auto, unfolding(crate::specs::Script::command))]
+pub fn read_command(alloc: Global, line: &[u8]) -> Result<Option<Command>, NoMemory>
+    ensures { IfOk result (λ found. found ≡ command line.now) }
 {
     if line.len() > LINE_LIMIT {
-        return None;
+        return Ok(None);
     }
-    read_tick(line)
+    match read_line(alloc, line) {
+        Ok(line) => Ok(command_of(&line)),
+        Err(LineFault::Bad) => Ok(None),
+        Err(LineFault::NoMemory) => Err(NoMemory),
+    }
 }

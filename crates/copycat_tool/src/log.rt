@@ -4,11 +4,11 @@ ghost use Rattle.disk_model.specs.Image.{Image};
 ghost use Rattle.disk_model.specs.View.{View, HasCause, IsSound, LeavesOnly};
 ghost use Rattle.log_model.specs.Log.{Item};
 ghost use Rattle.log_model.specs.Layout.{Layout, alone};
-ghost use Rattle.log_model.specs.Report.{Run, after, answer, outcome};
+ghost use Rattle.copycat_tool.specs.Report.{Run, after, answer, outcome};
 ghost use Rattle.copycat_tool.specs.Runs.{IsKept, KeepsOtherNames, OldOrNew};
 
 use disk_model::DiskFault;
-use host_types::{Index, Offer};
+use host_types::{Index, Time};
 use log_model::Outcome;
 use std::alloc::Global;
 
@@ -50,14 +50,14 @@ pub trait TickLog {
     fn last(&self) -> Index
         ensures { IsTrue tells → ready self.now → result ≡ length (run self.now).log };
 
-    /// Stores what is offered, or says why it isn't taken. Until it answers, a crash leaves the log with it or without it.
-    fn offer(&mut self, alloc: Global, offer: &Offer) -> Result<Outcome, DiskFault>
+    /// Stores a tick at this time, or says why it isn't taken. Until it answers, a crash leaves the log with it or without it.
+    fn offer(&mut self, alloc: Global, time: Time) -> Result<Outcome, DiskFault>
         requires { ready self.old }
-        ensures outcome { IsTrue tells → IfOk result (λ o. o ≡ outcome (run self.old) offer.now) }
+        ensures outcome { IsTrue tells → IfOk result (λ o. o ≡ outcome (run self.old) time) }
         ensures ready { OnOk result (ready self.new) }
-        ensures run { OnOk result (IsTrue tells → run self.new ≡ after (size self.old) (run self.old) (answer (run self.old) offer.now ∷ [])) }
+        ensures run { OnOk result (IsTrue tells → run self.new ≡ after (size self.old) (run self.old) (answer (run self.old) time ∷ [])) }
         ensures any_moment { IsTrue tells → held self.old → LeavesOnly (view self.old) (view self.new)
-            (OldOrNew (stands (name self.old)) (run self.old).log (after (size self.old) (run self.old) (answer (run self.old) offer.now ∷ [])).log) }
+            (OldOrNew (stands (name self.old)) (run self.old).log (after (size self.old) (run self.old) (answer (run self.old) time ∷ [])).log) }
         ensures held { OnOk result (IsTrue tells → held self.old → held self.new) }
         ensures reopens { IsTrue tells → held self.old → reopens (name self.old) (view self.new) }
         ensures others { IsTrue tells → KeepsOtherNames (view self.old) (view self.new) (name self.old) }

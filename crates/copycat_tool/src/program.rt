@@ -6,7 +6,7 @@ ghost use Rattle.disk_model.specs.View.{LeavesAt, MayHold};
 ghost use Rattle.segment_files.specs.Folder.{folder, IsFault};
 ghost use Rattle.segment_set.specs.Fits.{IsEmptyWhereNone};
 ghost use Rattle.log_model.specs.Log.{Item};
-ghost use Rattle.copycat_tool.specs.Words.{run_name};
+ghost use Rattle.copycat_tool.specs.Words.{asks, asked_of};
 ghost use Rattle.copycat_tool.specs.Runs.{Closes, InOrder, KeepsOtherNames};
 ghost use Rattle.copycat_tool.specs.FileLogs.{StandsFor};
 ghost use Rattle.copycat_tool.specs.Programs.{IsStatus, RunsInOrder, TellsDamage, usage_line};
@@ -21,21 +21,21 @@ use host_types::LogName;
 use script_io::{Sink, Source};
 use std::alloc::Global;
 
-/// After how many entries the next file is begun, for files that are made now.
-const SEGMENT_SIZE: u32 = 1024;
-
 /// Runs a script over the log of a name.
 fn run_log<I: Source, D: Disk, O: Sink>(
     alloc: Global,
     name: &LogName,
+    size: u32,
     script: &mut I,
     disk: D,
     out: &mut O,
 ) -> (Status, D)
+    requires least { 2 ≤ size }
+    requires most { size ≤ 65536 }
     ensures ran { IsTrue D.tells → (bytes before : List ℕ) → I.left script.old ≡ Some bytes → O.written out.old ≡ Some before
         → (log : List Item) (least : ℕ) → InOrder (StandsFor name.now) (D.view disk) log least → IsEmptyWhereNone (D.view disk) name.now → (text : List ℕ)
         × (O.written out.new ≡ Some (before ++ text))
-        × RunsInOrder name.now 1024 log least bytes (I.left script.new) (D.view disk) (D.view result.1) text result.0.0
+        × RunsInOrder name.now size log least bytes (I.left script.new) (D.view disk) (D.view result.1) text result.0.0
         (Rose (I.faults script.old) (I.faults script.new)) (D.faults disk < D.faults result.1) }
     ensures empty { IsTrue D.tells → IsEmptyWhereNone (D.view disk) name.now → IsEmptyWhereNone (D.view result.1) name.now }
     ensures damaged { result.0.0 ≡ 7 → IsTrue D.tells → (before : List ℕ) → O.written out.old ≡ Some before
@@ -57,12 +57,19 @@ fn run_log<I: Source, D: Disk, O: Sink>(
                 disk,
                 parts: start.parts,
                 time: start.time,
-                size: SEGMENT_SIZE,
+                size,
                 frame: Vec::new(alloc),
+                places: Vec::new(alloc),
             };
             let status = run_script(alloc, script, &mut log, out);
-            let FileLog { disk, frame, .. } = log;
+            let FileLog {
+                disk,
+                frame,
+                places,
+                ..
+            } = log;
             drop(frame);
+            drop(places);
             (status, disk)
         }
         Err(error) => (close_unopened(alloc, name, error, out), disk),
@@ -79,30 +86,30 @@ pub fn run<I: Source, D: Disk, O: Sink>(
     out: &mut O,
 ) -> (Status, D)
     // The words are no command exactly where the usage line is printed.
-    ensures usage { run_name (map (λ w. w.items) words.now) ≡ None → (before : List ℕ) → O.written out.old ≡ Some before → (text : List ℕ)
+    ensures usage { asked_of (map (λ w. w.items) words.now) ≡ None → (before : List ℕ) → O.written out.old ≡ Some before → (text : List ℕ)
         × (O.written out.new ≡ Some (before ++ text)) × Closes usage_line 2 result.0.0 text }
-    ensures usage_only { result.0.0 ≡ 2 → run_name (map (λ w. w.items) words.now) ≡ None }
-    ensures untouched { run_name (map (λ w. w.items) words.now) ≡ None → (result.1 ≡ disk) × (script.new ≡ script.old) }
+    ensures usage_only { result.0.0 ≡ 2 → asked_of (map (λ w. w.items) words.now) ≡ None }
+    ensures untouched { asked_of (map (λ w. w.items) words.now) ≡ None → (result.1 ≡ disk) × (script.new ≡ script.old) }
 
     // A folder that stands for a log, whatever a crash leaves of it: what is printed, and what the files stand for then.
-    ensures ran { IsTrue D.tells → (name bytes before : List ℕ) → run_name (map (λ w. w.items) words.now) ≡ Some name → I.left script.old ≡ Some bytes → O.written out.old ≡ Some before
+    ensures ran { IsTrue D.tells → (name bytes before : List ℕ) (size : ℕ) → asked_of (map (λ w. w.items) words.now) ≡ Some (asks name size) → I.left script.old ≡ Some bytes → O.written out.old ≡ Some before
         → (log : List Item) (least : ℕ) → InOrder (StandsFor name) (D.view disk) log least → IsEmptyWhereNone (D.view disk) name → (text : List ℕ)
         × (O.written out.new ≡ Some (before ++ text))
-        × RunsInOrder name 1024 log least bytes (I.left script.new) (D.view disk) (D.view result.1) text result.0.0
+        × RunsInOrder name size log least bytes (I.left script.new) (D.view disk) (D.view result.1) text result.0.0
         (Rose (I.faults script.old) (I.faults script.new)) (D.faults disk < D.faults result.1) }
 
     // Where no file of the name is listed at the end, no crash brings one back: so the folder is in order for the next run.
-    ensures empty { IsTrue D.tells → (name : List ℕ) → run_name (map (λ w. w.items) words.now) ≡ Some name → IsEmptyWhereNone (D.view disk) name → IsEmptyWhereNone (D.view result.1) name }
+    ensures empty { IsTrue D.tells → (name : List ℕ) (size : ℕ) → asked_of (map (λ w. w.items) words.now) ≡ Some (asks name size) → IsEmptyWhereNone (D.view disk) name → IsEmptyWhereNone (D.view result.1) name }
 
     // A folder that isn't right is told as such, or some other status has its cause; it is left as it is, whatever a crash leaves.
-    ensures damaged { result.0.0 ≡ 7 → IsTrue D.tells → (name before : List ℕ) → run_name (map (λ w. w.items) words.now) ≡ Some name → O.written out.old ≡ Some before
+    ensures damaged { result.0.0 ≡ 7 → IsTrue D.tells → (name before : List ℕ) (size : ℕ) → asked_of (map (λ w. w.items) words.now) ≡ Some (asks name size) → O.written out.old ≡ Some before
         → TellsDamage name (D.view disk) (D.view result.1) before (O.written out.new) }
-    ensures damage_told { IsTrue D.tells → (name : List ℕ) (id : FileId) → run_name (map (λ w. w.items) words.now) ≡ Some name → IsFault (folder name (D.view disk).reading) id
+    ensures damage_told { IsTrue D.tells → (name : List ℕ) (size : ℕ) (id : FileId) → asked_of (map (λ w. w.items) words.now) ≡ Some (asks name size) → IsFault (folder name (D.view disk).reading) id
         → (result.0.0 ≡ 7) ⊎ (result.0.0 ≡ 5) ⊎ (result.0.0 ≡ 6) ⊎ (result.0.0 ≡ 8) }
-    ensures unharmed { IsTrue D.tells → (name : List ℕ) (id : FileId) → run_name (map (λ w. w.items) words.now) ≡ Some name → IsFault (folder name (D.view disk).reading) id
+    ensures unharmed { IsTrue D.tells → (name : List ℕ) (size : ℕ) (id : FileId) → asked_of (map (λ w. w.items) words.now) ≡ Some (asks name size) → IsFault (folder name (D.view disk).reading) id
         → ((D.view result.1).reading ≡ (D.view disk).reading) × LeavesAt (D.view disk) (D.view result.1) (MayHold (D.view disk)) }
 
-    ensures others { IsTrue D.tells → (name : List ℕ) → run_name (map (λ w. w.items) words.now) ≡ Some name → KeepsOtherNames (D.view disk) (D.view result.1) name }
+    ensures others { IsTrue D.tells → (name : List ℕ) (size : ℕ) → asked_of (map (λ w. w.items) words.now) ≡ Some (asks name size) → KeepsOtherNames (D.view disk) (D.view result.1) name }
 
     // A fault is told only of what has failed.
     ensures read { result.0.0 ≡ 4 → Rose (I.faults script.old) (I.faults script.new) }
@@ -111,7 +118,7 @@ pub fn run<I: Source, D: Disk, O: Sink>(
     ensures statuses { IsStatus result.0.0 }
 {
     match read_words(words) {
-        Some(name) => run_log(alloc, &name, script, disk, out),
+        Some(asked) => run_log(alloc, &asked.name, asked.size, script, disk, out),
         None => (put_last(out, USAGE, 2), disk),
     }
 }

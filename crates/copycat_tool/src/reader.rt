@@ -2,7 +2,7 @@
 // what is held stays within a line and a chunk.
 ghost use Rattle.std.specs.Prelude.{◌≡◌, ◌<◌, ◌≤◌, ◌⊎◌, ◌+◌, ◌++◌, ℕ, List, [], Some, Ok, Err, false, length, take, drop, vec_len, MatchOption, IfSome, IfNone, IfOk, OnOk, IsErrOf};
 ghost use Rattle.script_io.specs.Streams.{Rose};
-ghost use Rattle.log_model.specs.Script.{has_feed};
+ghost use Rattle.copycat_tool.specs.Script.{has_feed};
 ghost use Rattle.copycat_tool.specs.Reading.{EndsAt, Finds, IsLineWithin, IsPiece, IsShort, TakesMore};
 ghost use Rattle.copycat_tool.specs.declared.reader.ReadError.TheVariants.{Failed, NoMemory};
 

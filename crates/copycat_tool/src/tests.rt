@@ -6,7 +6,7 @@ use crate::{FileLog, TickLog, USAGE, run};
 use disk_files::FileDisk;
 use disk_memory::{MemoryDisk, Outcome, SureDisk};
 use disk_model::{Disk, DiskFault, FileId};
-use host_types::{Ask, LogName, Offer, Refusal};
+use host_types::{LogName, Refusal};
 use log_model::Outcome as Answer;
 use script_io::{Failed, MemorySink, MemorySource, Source, SureSource};
 use segment_set::{Parts, Tail};
@@ -267,6 +267,75 @@ fn folders_are_opened(rt: HostRuntime) -> Result<(), Fail> {
     Ok(())
 }
 
+/// The body of a frame of this many ticks, from entry 1 on.
+fn ticks(alloc: Global, count: u64) -> Result<Vec<u8>, AllocError> {
+    let mut body = Vec::new(alloc);
+    for number in 0..count {
+        let index = number.saturating_add(1);
+        body.extend_from_slice(&index.to_be_bytes())?;
+        body.extend_from_slice(&index.to_be_bytes())?;
+        body.push(4)?;
+    }
+    Ok(body)
+}
+
+/// A command at index 1 that does nothing and replies 16 of the longest words: it takes more bytes than are read at once.
+fn longest(alloc: Global) -> Result<Vec<u8>, AllocError> {
+    let mut body = Vec::new(alloc);
+    for number in [1u64, 1] {
+        body.extend_from_slice(&number.to_be_bytes())?;
+    }
+    body.push(5)?;
+    for number in [1u64, 1] {
+        body.extend_from_slice(&number.to_be_bytes())?;
+    }
+    body.extend_from_slice(&[0, 6, 16])?;
+    for _ in 0..16 {
+        body.extend_from_slice(&[0x10, 0x00])?;
+        body.extend_from_slice(&[b'w'; 4096])?;
+    }
+    Ok(body)
+}
+
+/// The file `db-1-1.log` with one frame of this body and a shut gate.
+fn with_body(alloc: Global, body: &[u8]) -> Result<Vec<u8>, AllocError> {
+    let mut bytes = FULL[..64].to_vec(alloc)?;
+    bytes.push(1)?;
+    bytes.extend_from_slice(&u32::try_from(body.len()).unwrap_or(0).to_be_bytes())?;
+    bytes.extend_from_slice(body)?;
+    bytes.push(0)?;
+    Ok(bytes)
+}
+
+#[test]
+fn a_frame_has_1_to_64_ticks(rt: HostRuntime) -> Result<(), Fail> {
+    let alloc = rt.alloc();
+    let name = LogName::new(b"db").expect(&rt, "a name");
+    let damaged = "damaged db-1-1.log at 0\n";
+    let mut unbuilt = ticks(alloc, 1)?;
+    unbuilt.extend_from_slice(&[0, 0, 0, 0, 0, 0, 0, 2, 0, 0, 0, 0, 0, 0, 0, 2])?;
+    unbuilt.extend_from_slice(&[1, 0, 0, 0, 0, 0, 0, 0, 9])?;
+    let mut cut = ticks(alloc, 2)?;
+    cut.truncate(33);
+    let table = [
+        (ticks(alloc, 1)?, "open 1\n", 0),
+        (ticks(alloc, 2)?, "open 2\n", 0),
+        (ticks(alloc, 64)?, "open 64\n", 0),
+        (ticks(alloc, 65)?, damaged, 7),
+        (ticks(alloc, 0)?, damaged, 7),
+        (cut, damaged, 7),
+        (unbuilt, damaged, 7),
+        (longest(alloc)?, damaged, 7),
+    ];
+    for (body, text, status) in &table {
+        let mut disk = SureDisk::new(alloc);
+        disk.place(&name, id(&ONE), &with_body(alloc, body)?)?;
+        let mut script = SureSource::new(Vec::new(alloc));
+        runs(&rt, alloc, &mut script, disk, text, *status)?;
+    }
+    Ok(())
+}
+
 #[test]
 fn lines_are_answered_to_the_first_fault(rt: HostRuntime) -> Result<(), Fail> {
     let alloc = rt.alloc();
@@ -289,14 +358,30 @@ fn lines_are_answered_to_the_first_fault(rt: HostRuntime) -> Result<(), Fail> {
         ("tick\n", 0, "", "script fault at line 1\n", 3),
         ("tick \n", 0, "", "script fault at line 1\n", 3),
         ("tick -1\n", 0, "", "script fault at line 1\n", 3),
-        ("\n", 0, "", "script fault at line 1\n", 3),
+        ("\n", 0, "", "", 0),
+        ("tick 1\n\ntick 2\n", 0, "", "1 ok\n2 ok\n", 0),
+        ("#\n# \t\x7f \u{fe}\ntick 1\n#tick", 0, "", "1 ok\n", 0),
+        ("#", 16383, "\ntick 2\n", "1 ok\n", 0),
+        ("#", 16384, "\n", "script fault at line 1\n", 3),
+        (" #\n", 0, "", "script fault at line 1\n", 3),
+        ("\n#\n\ntick\n", 0, "", "script fault at line 4\n", 3),
+        // Lines of the language that the program doesn't do yet.
+        ("register 0 100\n", 0, "", "script fault at line 1\n", 3),
         (
-            "tick 1\n\ntick 2\n",
+            "do 1 1 1 create m map",
+            0,
+            "",
+            "script fault at line 1\n",
+            3,
+        ),
+        (
+            "tick 1\nquiet\n",
             0,
             "",
             "1 ok\nscript fault at line 2\n",
             3,
         ),
+        ("census\n", 0, "", "script fault at line 1\n", 3),
         (
             "tick 18446744073709551616\n",
             0,
@@ -344,12 +429,26 @@ fn lines_are_answered_to_the_first_fault(rt: HostRuntime) -> Result<(), Fail> {
 fn other_words_are_no_command(rt: HostRuntime) -> Result<(), Fail> {
     let alloc = rt.alloc();
     let name = LogName::new(b"db").expect(&rt, "a name");
-    let table: [&[&str]; 8] = [
+    let table: [&[&str]; 22] = [
         &[],
         &["run"],
         &["run", ""],
         &["run", "Db"],
+        &["run", "--segment"],
+        &["run", "--segment=4"],
+        &["run", "--segment", "4"],
+        &["run", "db", "--segment"],
         &["run", "db", "--segment", "1"],
+        &["run", "db", "--segment", "65537"],
+        &["run", "db", "--segment", "04"],
+        &["run", "db", "--segment", ""],
+        &["run", "db", "--segment="],
+        &["run", "db", "--segment=1"],
+        &["run", "db", "--segments=4"],
+        &["run", "--segment=4", "--segment=4"],
+        &["run", "db", "--segment", "4", "--segment=4"],
+        &["run", "--", "db"],
+        &["run", "db", "db"],
         &["run", "abcdefghijklmnopqrstuvwxyz0123456"],
         &["Run", "db"],
         &["db", "run"],
@@ -368,6 +467,33 @@ fn other_words_are_no_command(rt: HostRuntime) -> Result<(), Fail> {
         let mut disk = disk;
         assert_eq!(rt; disk.calls(), 0);
         holds(&rt, alloc, &mut disk, &name, &[ONE])?;
+    }
+    Ok(())
+}
+
+#[test]
+fn a_new_file_has_the_size_that_the_words_say(rt: HostRuntime) -> Result<(), Fail> {
+    let alloc = rt.alloc();
+    let name = LogName::new(b"db").expect(&rt, "a name");
+    let table: [(&[&str], [u8; 4]); 7] = [
+        (&["run", "db"], [0, 0, 4, 0]),
+        (&["run", "db", "--segment", "4"], [0, 0, 0, 4]),
+        (&["run", "--segment", "2", "db"], [0, 0, 0, 2]),
+        (&["run", "--segment=65536", "db"], [0, 1, 0, 0]),
+        (&["run", "db", "--segment=258"], [0, 0, 1, 2]),
+        (&["run", "--segment=1024", "db"], [0, 0, 4, 0]),
+        (&["run", "db", "--segment", "65535"], [0, 0, 255, 255]),
+    ];
+    for (texts, size) in table {
+        let words = words(alloc, texts)?;
+        let mut script = SureSource::new(b"tick 1\n".to_vec(alloc)?);
+        let mut out = MemorySink::new(alloc, Vec::new(alloc));
+        let (status, disk) = run(alloc, &words, &mut script, SureDisk::new(alloc), &mut out);
+        assert_eq!(rt; status.0, 0);
+        let mut disk = disk;
+        let mut buffer = [0; 87];
+        assert_eq!(rt; look(&mut disk, &name, id(&ONE), &mut buffer)?, Some(87));
+        assert_eq!(rt; buffer[56..60], *size.as_slice());
     }
     Ok(())
 }
@@ -543,14 +669,11 @@ fn the_last_index_is_the_end(rt: HostRuntime) -> Result<(), Fail> {
         time: 5,
         size: 1024,
         frame: Vec::new(alloc),
+        places: Vec::new(alloc),
     };
     let table = [(4, Refusal::Time { now: 5 }), (5, Refusal::LogEnd)];
     for (time, why) in table {
-        let offer = Offer {
-            time,
-            ask: Ask::Tick,
-        };
-        assert_eq!(rt; log.offer(alloc, &offer), Ok(Answer::Refused { why }));
+        assert_eq!(rt; log.offer(alloc, time), Ok(Answer::Refused { why }));
     }
     Ok(())
 }

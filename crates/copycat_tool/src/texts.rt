@@ -1,44 +1,38 @@
 // What is printed: one line of text, with its line feed.
-ghost use Rattle.std.specs.Prelude.{◌≡◌, ◌+◌, ◌++◌, ◌∷◌, ℕ, List, [], None, IfOk, codes};
+ghost use Rattle.std.specs.Prelude.{◌≡◌, IfOk};
 ghost use Rattle.std.specs.String.{string_bytes};
-ghost use Rattle.std.specs.Fmt.{decimal};
-ghost use Rattle.log_model.specs.Report.{printed, last_line};
-ghost use Rattle.log_model.specs.Report.{outcome_text as text_of, refusal_text as reason};
+ghost use Rattle.script_text.specs.Printing.{HasRange, printed_line};
+ghost use Rattle.copycat_tool.specs.Report.{printed, printed_of, last_line};
 
-use host_types::{Index, Refusal};
+use host_types::{Index, NoMemory};
 use log_model::{Ending, Outcome};
+use script_text::{Printed, print};
 use std::alloc::{AllocError, Global};
 
-/// The line that tells the last index of a log that was opened.
-pub fn opening_text(alloc: Global, last: Index) -> Result<String, AllocError>
-    ensures { IfOk result (λ text. string_bytes text ≡ codes "open " ++ decimal last ++ 10 ∷ []) }
+/// The line of an answer.
+fn line_of(alloc: Global, answer: &Printed) -> Result<Vec<u8>, NoMemory>
+    requires { HasRange answer.now }
+    ensures { IfOk result (λ text. text.items ≡ printed_line answer.now) }
 {
-    format!(in alloc; "open {last}\n")
+    let mut text = Vec::new(alloc);
+    print(answer, &mut text)?;
+    Ok(text)
 }
 
-fn refusal_text(alloc: Global, why: Refusal) -> Result<String, AllocError>
-    ensures { IfOk result (λ text. string_bytes text ≡ reason why ++ 10 ∷ []) }
+/// The line that tells the last index of a log that was opened.
+pub fn opening_text(alloc: Global, last: Index) -> Result<Vec<u8>, NoMemory>
+    ensures { IfOk result (λ text. text.items ≡ printed_line (Printed.Opened last)) }
 {
-    match why {
-        Refusal::Time { now } => {
-            let text = format!(in alloc; "refused time {now}\n")?;
-            Ok(text)
-        }
-        Refusal::LogEnd => format!(in alloc; "refused log end\n"),
-        Refusal::GenEnd { generation: _ } => format!(in alloc; "refused gen end\n"),
-    }
+    line_of(alloc, &Printed::Opened { last })
 }
 
 /// The line that answers an offer.
-pub fn outcome_text(alloc: Global, outcome: Outcome) -> Result<String, AllocError>
-    ensures { IfOk result (λ text. string_bytes text ≡ text_of outcome ++ 10 ∷ []) }
+pub fn outcome_text(alloc: Global, outcome: Outcome) -> Result<Vec<u8>, NoMemory>
+    ensures { IfOk result (λ text. text.items ≡ printed_line (printed_of outcome)) }
 {
     match outcome {
-        Outcome::Stored { index } => {
-            let text = format!(in alloc; "{index} ok\n")?;
-            Ok(text)
-        }
-        Outcome::Refused { why } => refusal_text(alloc, why),
+        Outcome::Stored { index } => line_of(alloc, &Printed::Done { index }),
+        Outcome::Refused { why } => line_of(alloc, &Printed::Refused(why)),
     }
 }
 

@@ -1,19 +1,88 @@
 // The words that the program is called with.
-ghost use Rattle.std.specs.Prelude.{◌≡◌, map};
-ghost use Rattle.copycat_tool.specs.Words.{run_name};
+ghost use Rattle.std.specs.Prelude.{◌≡◌, map, IfSome};
+ghost use Rattle.copycat_tool.specs.Words.{IsSize, asked, asked_of, run_of, size_of};
+ghost use Rattle.host_types.specs.Name.{named};
 
 use host_types::LogName;
+use script_text::number_of;
 
 /// The line that is printed where the words are no command.
 pub const USAGE: &[u8] =
     b"usage: copycat run NAME [--segment N], census NAME, follow LEADER NAME, make NAME SEED COUNT\n";
 
-/// The log that is to be run, if the words are a command. `run NAME` is the one command so far.
-pub fn read_words(words: &[Vec<u8>]) -> Option<LogName>
-    ensures { result ≡ run_name (map (λ w. w.items) words.now) }
+/// After how many entries the next file is begun, where the words say nothing of it.
+const USUAL_SIZE: u32 = 1024;
+
+/// What the words ask: to run a script over the log of this name.
+#[derive(Clone, Copy)]
+pub struct Asked {
+    pub name: LogName,
+    /// After how many entries the next file is begun, for files that are made now: 2 to 65,536.
+    pub size: u32,
+}
+
+/// The size that a word is.
+fn size_in(word: &[u8]) -> Option<u32>
+    ensures size { result ≡ size_of word.now }
+    ensures within { IfSome result IsSize }
+{
+    let size = number_of(word)?;
+    if !(2..=65536).contains(&size) {
+        return None;
+    }
+    Some(size as u32)
+}
+
+/// What a name and a size ask, if they are ones.
+fn asks(name: &[u8], size: Option<u32>) -> Option<Asked>
+    requires { IfSome size IsSize }
+    ensures asked { result ≡ asked (named name.now) size }
+    ensures within { IfSome result (λ asked. IsSize asked.size) }
+{
+    Some(Asked {
+        name: LogName::new(name).ok()?,
+        size: size?,
+    })
+}
+
+/// What stands behind the word `run`.
+fn read_run(words: &[Vec<u8>]) -> Option<Asked>
+    ensures asked { result ≡ run_of (map (λ w. w.items) words.now) }
+    ensures within { IfSome result (λ asked. IsSize asked.size) }
 {
     match words {
-        [word, name] if word.as_slice() == b"run".as_slice() => LogName::new(name).ok(),
+        [] => None,
+        [name] => asks(name, Some(USUAL_SIZE)),
+        [first, second] => {
+            if let Some(size) = first.strip_prefix(b"--segment=") {
+                asks(second, size_in(size))
+            } else if let Some(size) = second.strip_prefix(b"--segment=") {
+                asks(first, size_in(size))
+            } else {
+                None
+            }
+        }
+        [first, second, third] => {
+            if first.as_slice() == b"--segment".as_slice() {
+                asks(third, size_in(second))
+            } else if second.as_slice() == b"--segment".as_slice() {
+                asks(first, size_in(third))
+            } else {
+                None
+            }
+        }
+        _ => None,
+    }
+}
+
+/// What the words ask, if they are a command. `run NAME` is the one command so far, with `--segment N` or `--segment=N`
+/// before or behind the name.
+pub fn read_words(words: &[Vec<u8>]) -> Option<Asked>
+    ensures asked { result ≡ asked_of (map (λ w. w.items) words.now) }
+    ensures within { IfSome result (λ asked. IsSize asked.size) }
+{
+    match words {
+        [word, words @ ..] if word.as_slice() == b"run".as_slice() => read_run(words),
         _ => None,
     }
 }

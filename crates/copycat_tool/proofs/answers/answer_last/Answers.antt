@@ -1,8 +1,8 @@
 use Rattle.std.proofs.Common.{◌≡◌, ◌==◌, ℕ, true, false, List, [], ◌∷◌, length, Some, refl, ap, sym, ◌∙◌, subst, arith}
 use Rattle.std.proofs.lemmas.List.{append-nil}
 use Rattle.std.proofs.lemmas.Bool.Decides.{nat_tests}
-use Rattle.log_model.specs.Script.{command}
-use Rattle.log_model.specs.Report.{Run, Report, Whole, ends, one, last_piece}
+use Rattle.copycat_tool.specs.Script.{command}
+use Rattle.copycat_tool.specs.Report.{Run, Report, Whole, ends, one, last_piece}
 use Rattle.log_model.specs.declared.Ending.TheVariants.{Done}
 use Rattle.copycat_tool.specs.Runs.{files_of, Ended}
 use Rattle.copycat_tool.proofs.Progress.{at_rest_as, stays}

@@ -1,6 +1,6 @@
 use Rattle.std.proofs.Common.{◌≡◌, ◌⊎◌, inl, inr, ℕ, List, [], ◌++◌, Option, Some, refl, ap, sym, ◌∙◌, subst}
 use Rattle.std.proofs.lemmas.List.{append-nil}
-use Rattle.log_model.specs.Report.{last_line, printed, status_of}
+use Rattle.copycat_tool.specs.Report.{last_line, printed, status_of}
 use Rattle.log_model.specs.declared.Ending.{Ending}
 use Rattle.log_model.specs.declared.Ending.TheVariants.{Done, Fault, TooLong, ReadFault, WriteFault, DiskFault, NoMemory}
 use Rattle.copycat_tool.specs.Runs.{Closes}

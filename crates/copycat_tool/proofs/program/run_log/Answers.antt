@@ -2,7 +2,6 @@ use Rattle.std.proofs.Common.{◌≡◌, ◌<◌, ℕ, List, inl, inr, ⊎_elim,
 use Rattle.script_io.specs.Streams.{Rose}
 use Rattle.segment_set.specs.declared.opening.OpenError.TheVariants.{Damaged}
 use Rattle.segment_set.specs.Fits.{IsEmptyWhereNone, IsHeld}
-use Rattle.log_model.specs.Log.{stored}
 use Rattle.copycat_tool.specs.FileLogs.{LiesAlone, StandsFor, shown}
 use Rattle.copycat_tool.specs.Runs.{HasPrefix, Ran, files_of}
 use Rattle.copycat_tool.proofs.ProgramLemmas.{to_entries, left_items, opens_prefix, lies_at_start, opened_no_fault, in_order_no_fault, runs_from_start, damage_written}
@@ -17,11 +16,11 @@ returns-in-Ok-clause-ran g c = λ t bytes before left was log least order empty.
     let name = c.args.name.now in
     let tail = c.in-Ok.start.parts.tail in
     let greatest = c.in-Ok.start.parts.greatest in
-    let left_opening = c.open_log.ensures.any_moment t (stored log) least (to_entries v name log least order) in
+    let left_opening = c.open_log.ensures.any_moment t log least (to_entries v name log least order) in
     let prefix = opens_prefix v m name tail greatest log least (g.met.D.Disk.sound c.open_log.new.disk t) (c.in-Ok.ensures.ready t).fits left_opening in
     let held = subst (λ (n : List ℕ). IsHeld m n tail) (sym c.in-Ok.ensures.name) (c.in-Ok.ensures.held t empty) in
     let ran = c.run_script-status.ensures.ran t held bytes before left was in
-    let ran_named = subst (λ (n : List ℕ). Ran (files_of StandsFor LiesAlone n 1024) (shown m n tail greatest) bytes (g.I.Source.left c.run_script-status.new.script) m w ran.0 c.run_script-status.result.0
+    let ran_named = subst (λ (n : List ℕ). Ran (files_of StandsFor LiesAlone n c.args.size) (shown m n tail greatest) bytes (g.I.Source.left c.run_script-status.new.script) m w ran.0 c.run_script-status.result.0
     (Rose (g.I.Source.faults c.args.script.now) (g.I.Source.faults c.run_script-status.new.script)) (g.D.Disk.faults c.open_log.new.disk < g.D.Disk.faults c.run_script-status.new.log.disk)) c.in-Ok.ensures.name ran.2 in (
       ran.0,
       ran.1,
@@ -32,7 +31,7 @@ returns-in-Ok-clause-ran g c = λ t bytes before left was log least order empty.
         within = prefix.within;
         log_is = prefix.is;
         lies = lies_at_start v m name tail greatest (c.in-Ok.ensures.choice t) (c.in-Ok.ensures.greatest t);
-        ran = runs_from_start (files_of StandsFor LiesAlone name 1024) (shown m name tail greatest) bytes (g.I.Source.left c.run_script-status.new.script) v m w (HasPrefix (StandsFor name) log least) ran.0 c.run_script-status.result.0
+        ran = runs_from_start (files_of StandsFor LiesAlone name c.args.size) (shown m name tail greatest) bytes (g.I.Source.left c.run_script-status.new.script) v m w (HasPrefix (StandsFor name) log least) ran.0 c.run_script-status.result.0
             (Rose (g.I.Source.faults c.args.script.now) (g.I.Source.faults c.run_script-status.new.script)) (g.D.Disk.faults c.open_log.new.disk < g.D.Disk.faults c.run_script-status.new.log.disk) (g.D.Disk.faults c.args.disk < g.D.Disk.faults c.run_script-status.new.log.disk)
             (left_items v m name log least left_opening) (λ rose. omega (arith, rose, c.open_log.ensures.cause.later)) ran_named;
       }),
@@ -57,7 +56,7 @@ returns-in-Err-clause-ran g c = λ t bytes before left was log least order empty
         undamaged = λ base generation at is. ⊎_elim (λ same. damage base generation at (sym same ∙ is)) (λ none. cc (none, is)) closed.why;
         disk_fault = λ is. ⊎_elim (λ same. c.open_log.ensures.cause.failed (c.in-Err.is ∙ ap Err (sym same ∙ is))) (λ none. absurd (cc (none, is))) closed.why;
         closes = closed.closes;
-        any_moment = left_items v m name log least (c.open_log.ensures.any_moment t (stored log) least (to_entries v name log least order));
+        any_moment = left_items v m name log least (c.open_log.ensures.any_moment t log least (to_entries v name log least order));
         unread = left;
       }),
     )

@@ -1,7 +1,7 @@
 use Rattle.std.proofs.Common.{◌≡◌, ℕ, ◌+◌, ◌<◌, ◌==◌, ◌||◌, Bool, true, false, List, [], ◌∷◌, ◌++◌, length, take, drop, get_or, ap, sym, ◌∙◌, arith, take-append-drop}
 use Rattle.std.proofs.lemmas.List.{drop_more, take_more}
 use Rattle.std.proofs.lemmas.Bool.{ne_eqb}
-use Rattle.log_model.specs.Script.{has_feed}
+use Rattle.copycat_tool.specs.Script.{has_feed}
 use Rattle.copycat_tool.proofs.reader.find_feed.Goals as goal
 
 none-append : (a : List ℕ) (byte : ℕ) → has_feed a ≡ false → byte == 10 ≡ false → has_feed (a ++ byte ∷ []) ≡ false

@@ -1,5 +1,5 @@
 use Rattle.std.proofs.Common.{◌≡◌, false, take}
-use Rattle.log_model.specs.Script.{has_feed}
+use Rattle.copycat_tool.specs.Script.{has_feed}
 use Rattle.copycat_tool.proofs.reader.find_feed.Given as goal
 
 abbrev pub invariant-loop-i : goal.invariant-loop-i

@@ -2,7 +2,7 @@
 use Rattle.std.proofs.Common.{◌∙◌, ap, sym, [], ◌∷◌, ◌++◌, codes}
 use Rattle.std.proofs.lemmas.List.{append-nil}
 use Rattle.std.specs.Fmt.{decimal}
-use Rattle.log_model.specs.Report.{printed, last_line}
+use Rattle.copycat_tool.specs.Report.{printed, last_line}
 use Rattle.log_model.specs.declared.Ending.{Ending}
 use Rattle.copycat_tool.proofs.texts.last_line_text.Goals as goal
 

@@ -1,6 +1,6 @@
 use Rattle.std.proofs.Common.{◌+◌, length, ap, ◌∙◌, arith}
 use Rattle.std.proofs.lemmas.List.{take_all}
-use Rattle.log_model.specs.Script.{has_feed}
+use Rattle.copycat_tool.specs.Script.{has_feed}
 use Rattle.copycat_tool.proofs.ReadingLemmas.{slice_is, ends_further, none_further}
 use Rattle.copycat_tool.proofs.reader.LineReader.find.Goals as goal
 

@@ -1,5 +1,5 @@
 use Rattle.std.proofs.Common.{ℕ, List, length, take, ap, ◌∙◌, arith}
-use Rattle.log_model.specs.Script.{has_feed}
+use Rattle.copycat_tool.specs.Script.{has_feed}
 use Rattle.copycat_tool.proofs.ReadingLemmas.{takes_further}
 use Rattle.copycat_tool.proofs.reader.LineReader.next_piece.Goals as goal
 

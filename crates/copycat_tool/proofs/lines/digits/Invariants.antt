@@ -1,7 +1,0 @@
--- the digits so far make n
-use Rattle.std.proofs.Common.{◌≡◌, drop}
-use Rattle.log_model.specs.Script.{number_from}
-use Rattle.copycat_tool.proofs.lines.digits.Given as goal
-
-abbrev pub invariant-loop-byte : goal.invariant-loop-byte
-invariant-loop-byte l = number_from 0 l.bytes ≡ number_from l.n (drop l.byte-index l.bytes)
