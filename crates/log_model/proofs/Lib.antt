@@ -1,1 +1,14 @@
-mod Examples
+pub mod Appends
+pub mod Changes
+pub mod Compactions
+pub mod Entries
+pub mod Examples
+pub mod Growth
+pub mod Indexed
+pub mod Joined
+pub mod Law
+pub mod Lookups
+pub mod OfLogs
+pub mod Places
+pub mod RowEffects
+pub mod Tracks

@@ -1,4 +1,14 @@
+pub mod Admission
+pub mod Batches
+pub mod Cells
+pub mod Cleaning
+pub mod Commands
+pub mod Kept
 pub mod Layout
 pub mod Log
-pub mod Report
-pub mod Script
+pub mod Plain
+pub mod Quiet
+pub mod Rows
+pub mod Sessions
+pub mod Step
+pub mod Stored
