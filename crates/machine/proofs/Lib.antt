@@ -1,0 +1,2 @@
+pub mod ReleaseLaws
+pub mod TallySteps
