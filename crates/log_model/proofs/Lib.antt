@@ -1,5 +1,7 @@
 pub mod Appends
+pub mod Chains
 pub mod Changes
+pub mod Clients
 pub mod Compactions
 pub mod Entries
 pub mod Examples
@@ -8,7 +10,12 @@ pub mod Indexed
 pub mod Joined
 pub mod Law
 pub mod Lookups
+pub mod Moves
 pub mod OfLogs
+pub mod OneSession
 pub mod Places
+pub mod QuietGreatest
 pub mod RowEffects
+pub mod SessionFields
+pub mod Timely
 pub mod Tracks

@@ -9,6 +9,7 @@ pub mod Log
 pub mod Plain
 pub mod Quiet
 pub mod Rows
+pub mod Serving
 pub mod Sessions
 pub mod Step
 pub mod Stored

@@ -4,7 +4,9 @@
 
 ghost use Rattle.log_model.specs.Cleaning.{AppendKeeps, CentralLaw, CentralLawOfLogs, FreshIsCleaned, ReleasedGrows};
 ghost use Rattle.log_model.specs.Kept.{MajorKeeps, MinorKeeps};
-ghost use Rattle.log_model.specs.Quiet.{QuietGrows};
+ghost use Rattle.log_model.specs.Quiet.{QuietGrows, QuietIsGreatest};
+ghost use Rattle.log_model.specs.Serving.{BatchesAreLinked, BatchesGrow, ClientTakesAll, ClientTakesRun, KeepsTheRest};
+ghost use Rattle.log_model.specs.Sessions.{SessionsLaw};
 
 use host_types::{Index, Refusal};
 
@@ -74,4 +76,40 @@ pub fn minor_keeps()
 /// A major compaction at the present quiet leaves a cleaned log.
 pub fn major_keeps()
     ensures { MajorKeeps }
+{}
+
+/// What is left of a lawful log gives its sessions' own fields, at each moment from the cut on.
+pub fn sessions_law()
+    ensures { SessionsLaw }
+{}
+
+/// Quiet is the greatest index, at most the last, at or below which no session keeps anything.
+pub fn quiet_is_greatest()
+    ensures { QuietIsGreatest }
+{}
+
+/// A session keeps, of the batches that it was given, those above its acknowledged event, and that event is the index before the
+/// first of them.
+pub fn keeps_the_rest()
+    ensures { KeepsTheRest }
+{}
+
+/// The batches of a session follow one another, from its id on.
+pub fn batches_are_linked()
+    ensures { BatchesAreLinked }
+{}
+
+/// As the log grows, the batches that a session was given stay.
+pub fn batches_grow()
+    ensures { BatchesGrow }
+{}
+
+/// Whatever batches of its session a client is offered, it takes an unbroken run of them from its start, each once.
+pub fn client_takes_run()
+    ensures { ClientTakesRun }
+{}
+
+/// A client that starts at the acknowledged event and is served what is kept takes it all.
+pub fn client_takes_all()
+    ensures { ClientTakesAll }
 {}
