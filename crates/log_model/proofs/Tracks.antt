@@ -26,10 +26,10 @@ use Rattle.host_types.specs.Cells.{deletes_standing}
 use Rattle.log_model.specs.Cleaning.{closes_standing}
 use Rattle.log_model.specs.Plain.{Plain, kind_of, new_plain, Session, Named_resource, State, session_of}
 use Rattle.log_model.specs.Rows.{Row, Does, Out_of_range, Of_no_kind, Call, row}
-use Rattle.log_model.specs.Admission.{Item, Offered, Expired, Admission, Admitted, Repeats, Refused, first_refusal, admits_time, admits_more, refused_due, refused_outcome, due, of_session, admits_alive, admits_seq, admits_ask, admits}
+use Rattle.log_model.specs.Admission.{Item, Offered, Expired, Admission, Admitted, Repeats, Refused, first_refusal, admits_time, admits_more, refused_due, refused_outcome, due_in, of_session, admits_alive, admits_seq, admits_asked, admits_offer, declined_by, admits_ask}
 use Rattle.log_model.specs.Commands.{name_limit, with_plain, row_outcome, outcome_there, outcome_new, outcome_at, outcome, Outcome, Decided, Declined}
 use Rattle.log_model.specs.Step.{with_batches, changed, kept_alive, with_reply, new_session, closed_name, commanded, step}
-use Rattle.log_model.specs.Stored.{is_admitted, decided_body, entry_of}
+use Rattle.log_model.specs.Stored.{is_admission, is_admitted, decided_body, entry_of}
 use Rattle.log_model.proofs.Places.{place_total, exact_places, exact_texts}
 use Rattle.log_model.proofs.Lookups.{tied_true, tied_same, any_from_found}
 use Rattle.log_model.proofs.Changes.{Change, Written, Taken, Left, change}
@@ -451,17 +451,28 @@ pub session_open : (id : ℕ) (o : Option Session) (rest : Session → Admission
 session_open id None rest e = absurd (cc)
 session_open id (Some x) rest e = refl
 
+pub is_admission_true : (x : Admission) → is_admission x ≡ true → x ≡ Admitted
+is_admission_true Admitted e = refl
+is_admission_true (Repeats reply) e = absurd (cc)
+is_admission_true (Refused refusal) e = absurd (cc)
+
+-- each test of an offer that was admitted
+pub record Passed (last now : ℕ) (sessions : List Session) (declined : ℕ → List ℕ → Op → Admission) (t : ℕ) (a : Ask) : Type 0 where
+  pub on_time : admits_time now t ≡ Admitted
+  pub nobody_due : refused_due (due_in t sessions) ≡ Admitted
+  pub ask : admits_asked sessions declined a ≡ Admitted
+  pub more : admits_more last ≡ Admitted
+
+pub passed : (last now : ℕ) (sessions : List Session) (declined : ℕ → List ℕ → Op → Admission) (t : ℕ) (a : Ask) → is_admission (admits_offer last now sessions declined (record { time = t; ask = a })) ≡ true → Passed last now sessions declined t a
+passed last now sessions declined t a e =
+    let late = admits_asked sessions declined a ∷ admits_more last ∷ [] in
+    let r = refusals (admits_time now t) (refused_due (due_in t sessions) ∷ late) (is_admission_true (admits_offer last now sessions declined (record { time = t; ask = a })) e) in
+    let q = refusals (refused_due (due_in t sessions)) late r.1 in
+    let p = refusals (admits_asked sessions declined a) (admits_more last ∷ []) q.1 in
+    record { on_time = r.0; nobody_due = q.0; ask = p.0; more = (refusals (admits_more last) [] p.1).0 }
+
 pub offered_admitted : (s : State) (t : ℕ) (a : Ask) → is_admitted s (Offered (record { time = t; ask = a })) ≡ true → admits_ask s a ≡ Admitted
-offered_admitted s t a e =
-    let late = admits_ask s a ∷ admits_more s ∷ [] in
-    let r = refusals (admits_time s t) (refused_due (due t s) ∷ late) (is (admits s (record { time = t; ask = a })) e) in
-    let q = refusals (refused_due (due t s)) late r.1 in
-    (refusals (admits_ask s a) (admits_more s ∷ []) q.1).0
-  where
-    is : (x : Admission) → elim x as (λ _. Bool) [ Admitted ↦ true | Repeats reply ↦ false | Refused refusal ↦ false ] ≡ true → x ≡ Admitted
-    is Admitted e = refl
-    is (Repeats reply) e = absurd (cc)
-    is (Refused refusal) e = absurd (cc)
+offered_admitted s t a e = (passed s.last s.now s.sessions (declined_by s) t a e).ask
 
 -- one item: what is stored of it fits, deletes what stands, has its owner, and leaves the names and sessions of the step
 pub record Tracked (s : State) (c : Cells) (item : Item) : Type 0 where

@@ -5,10 +5,11 @@ use Rattle.host_types.specs.Limits.{index_limit}
 use Rattle.host_types.specs.declared.entry.Offer.{Offer}
 use Rattle.host_types.specs.declared.entry.Ask.{Ask}
 use Rattle.host_types.specs.declared.entry.Ask.TheVariants.{Register, Alive, Unregister, Tick, Command}
+use Rattle.host_types.specs.declared.entry.Op.{Op}
 use Rattle.host_types.specs.declared.entry.Reply.{Reply}
 use Rattle.host_types.specs.declared.entry.Refusal.{Refusal}
 use Rattle.host_types.specs.declared.entry.Refusal.TheVariants.{Time, Due, NoSession, Forgotten, Gap, Ack, Sessions, LogEnd}
-use Rattle.log_model.specs.Plain.{Kept_reply, Session, State, session_of}
+use Rattle.log_model.specs.Plain.{Kept_reply, Session, State, session_in}
 use Rattle.log_model.specs.Commands.{Outcome, outcome, Decided, Declined}
 
 -- an offer, or the end of a session that is due
@@ -41,8 +42,11 @@ abbrev pub is_due : ℕ → Session → Bool
 is_due time x = nat_lt x.last_time time && nat_lt x.timeout (time - x.last_time)
 
 -- the due session with the least id
+abbrev pub due_in : ℕ → List Session → Option ℕ
+due_in time sessions = elim (find (is_due time) sessions) [ None ↦ None | Some x ↦ Some x.id ]
+
 abbrev pub due : ℕ → State → Option ℕ
-due time s = elim (find (is_due time) s.sessions) [ None ↦ None | Some x ↦ Some x.id ]
+due time s = due_in time s.sessions
 
 abbrev pub refused_due : Option ℕ → Admission
 refused_due None = Admitted
@@ -74,22 +78,32 @@ abbrev pub of_session : ℕ → Option Session → (Session → Admission) → A
 of_session id None rest = Refused (NoSession id)
 of_session id (Some x) rest = rest x
 
-abbrev pub admits_ask : State → Ask → Admission
-admits_ask s (Register timeout) = refused_if (nat_le session_limit (length s.sessions)) Sessions
-admits_ask s (Alive session seq event) = of_session session (session_of session s) (admits_alive seq event)
-admits_ask s (Unregister session) = of_session session (session_of session s) (λ _. Admitted)
-admits_ask s Tick = Admitted
-admits_ask s (Command session seq name op) = first_refusal (of_session session (session_of session s) (admits_seq seq) ∷ refused_outcome (outcome s name session op) ∷ [])
+-- what is asked of these sessions, where it is known of each command whether its operation is declined
+abbrev pub admits_asked : List Session → (ℕ → List ℕ → Op → Admission) → Ask → Admission
+admits_asked sessions declined (Register timeout) = refused_if (nat_le session_limit (length sessions)) Sessions
+admits_asked sessions declined (Alive session seq event) = of_session session (session_in session sessions) (admits_alive seq event)
+admits_asked sessions declined (Unregister session) = of_session session (session_in session sessions) (λ _. Admitted)
+admits_asked sessions declined Tick = Admitted
+admits_asked sessions declined (Command session seq name op) = first_refusal (of_session session (session_in session sessions) (admits_seq seq) ∷ declined session name op ∷ [])
 
-abbrev pub admits_time : State → ℕ → Admission
-admits_time s time = refused_if (nat_lt time s.now) (Time s.now)
+abbrev pub admits_time : ℕ → ℕ → Admission
+admits_time now time = refused_if (nat_lt time now) (Time now)
 
-abbrev pub admits_more : State → Admission
-admits_more s = refused_if (nat_le index_limit s.last) LogEnd
+abbrev pub admits_more : ℕ → Admission
+admits_more last = refused_if (nat_le index_limit last) LogEnd
 
 -- an offer: the time, who is due, the ask itself, the end of the log, in this order
+abbrev pub admits_offer : ℕ → ℕ → List Session → (ℕ → List ℕ → Op → Admission) → Offer → Admission
+admits_offer last now sessions declined o = first_refusal (admits_time now o.time ∷ refused_due (due_in o.time sessions) ∷ admits_asked sessions declined o.ask ∷ admits_more last ∷ [])
+
+abbrev pub declined_by : State → ℕ → List ℕ → Op → Admission
+declined_by s session name op = refused_outcome (outcome s name session op)
+
+abbrev pub admits_ask : State → Ask → Admission
+admits_ask s ask = admits_asked s.sessions (declined_by s) ask
+
 abbrev pub admits : State → Offer → Admission
-admits s o = first_refusal (admits_time s o.time ∷ refused_due (due o.time s) ∷ admits_ask s o.ask ∷ admits_more s ∷ [])
+admits s o = admits_offer s.last s.now s.sessions (declined_by s) o
 
 -- who expires at a time
 pub data Expiry : Type 0 where
@@ -101,5 +115,8 @@ abbrev pub expires_due : ℕ → Option ℕ → Expiry
 expires_due last None = Nobody
 expires_due last (Some id) = cond (nat_le index_limit last) (Not_now LogEnd) (Expires id)
 
+abbrev pub expires_in : ℕ → ℕ → List Session → ℕ → Expiry
+expires_in last now sessions time = cond (nat_lt time now) (Not_now (Time now)) (expires_due last (due_in time sessions))
+
 abbrev pub expires : State → ℕ → Expiry
-expires s time = cond (nat_lt time s.now) (Not_now (Time s.now)) (expires_due s.last (due time s))
+expires s time = expires_in s.last s.now s.sessions time

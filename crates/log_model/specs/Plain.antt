@@ -86,8 +86,11 @@ pub record State : Type 0 where
 abbrev pub nothing_yet : State
 nothing_yet = record { last = 0; now = 0; sessions = []; names = [] }
 
+abbrev pub session_in : ℕ → List Session → Option Session
+session_in id sessions = find (λ x. x.id == id) sessions
+
 abbrev pub session_of : ℕ → State → Option Session
-session_of id s = find (λ x. x.id == id) s.sessions
+session_of id s = session_in id s.sessions
 
 abbrev pub named : List ℕ → State → Option Named_resource
 named name s = find (λ x. is_text name x.name) s.names
