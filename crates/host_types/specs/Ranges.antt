@@ -13,6 +13,12 @@ use Rattle.host_types.specs.declared.entry.Effect.{Effect}
 use Rattle.host_types.specs.declared.entry.Effect.TheVariants as effects
 use Rattle.host_types.specs.declared.entry.Reply.{Reply}
 use Rattle.host_types.specs.declared.entry.Reply.TheVariants as replies
+use Rattle.host_types.specs.declared.entry.Body.{Body}
+use Rattle.host_types.specs.declared.entry.Body.TheVariants as bodies
+use Rattle.host_types.specs.declared.entry.Entry.{Entry}
+use Rattle.host_types.specs.declared.entry.Ask.{Ask}
+use Rattle.host_types.specs.declared.entry.Ask.TheVariants as asks
+use Rattle.host_types.specs.declared.entry.Offer.{Offer}
 use Rattle.host_types.specs.declared.entry.Op.{Op}
 use Rattle.host_types.specs.declared.entry.Op.TheVariants as ops
 
@@ -148,3 +154,41 @@ pub record IsHeldInRange (held : Held) : Type 0 where
 
 abbrev pub AreCellsInRange : Cells → Type 0
 AreCellsInRange standing = (place : Place) (held : Held) → at standing place ≡ Some held → IsPlaceInRange place × IsHeldInRange held
+
+-- ---- an entry at its index, and an offer
+
+abbrev pub BodyFits : Body → Type 0
+BodyFits (bodies.Register timeout) = IsUnsigned timeout
+BodyFits (bodies.Alive session seq event) = IsUnsigned session × IsUnsigned seq × IsUnsigned event
+BodyFits (bodies.Close session expired) = IsUnsigned session
+BodyFits bodies.Tick = Unit {0}
+BodyFits (bodies.Command session seq effect reply) = IsUnsigned session × IsUnsigned seq × EffectFits effect × ReplyFits reply
+
+-- what the types of an entry hold by themselves
+pub record EntryFits (entry : Entry) : Type 0 where
+  pub time : IsUnsigned entry.time
+  pub body : BodyFits entry.body
+
+abbrev pub IsBodyInRange : Body → Type 0
+IsBodyInRange (bodies.Register timeout) = Unit {0}
+IsBodyInRange (bodies.Alive session seq event) = IsIndex session × (seq ≤ index_limit) × IsIndex event
+IsBodyInRange (bodies.Close session expired) = IsIndex session
+IsBodyInRange bodies.Tick = Unit {0}
+IsBodyInRange (bodies.Command session seq effect reply) = IsIndex session × IsIndex seq × IsEffectInRange effect × IsReplyInRange reply
+
+-- which of its numbers are indexes
+pub record IsInRange (index : ℕ) (entry : Entry) : Type 0 where
+  pub at : IsIndex index
+  pub body : IsBodyInRange entry.body
+
+abbrev pub AskFits : Ask → Type 0
+AskFits (asks.Register timeout) = IsUnsigned timeout
+AskFits (asks.Alive session seq event) = IsUnsigned session × IsUnsigned seq × IsUnsigned event
+AskFits (asks.Unregister session) = IsUnsigned session
+AskFits asks.Tick = Unit {0}
+AskFits (asks.Command session seq name op) = IsUnsigned session × IsUnsigned seq × IsKey name × OpFits op
+
+-- what the types of an offer hold by themselves
+pub record OfferFits (offer : Offer) : Type 0 where
+  pub time : IsUnsigned offer.time
+  pub ask : AskFits offer.ask

@@ -9,11 +9,12 @@ use Rattle.host_types.specs.Cells.{Place, Held, place_cmp, Cells, at, put_all}
 use Rattle.log_model.specs.Cells.{puts, covers, is_covered, uncovered, fits, after}
 use Rattle.log_model.proofs.Places.{place_total, exact_places}
 
-abbrev or_else : Option Held → Option Held → Option Held
+-- the first that is there
+abbrev pub or_else : Option Held → Option Held → Option Held
 or_else None o = o
 or_else (Some h) o = Some h
 
-at-put_all : (ws : List (Place × Held)) (c : Cells) (p : Place) → at (put_all ws c) p ≡ or_else (at ws p) (at c p)
+pub at-put_all : (ws : List (Place × Held)) (c : Cells) (p : Place) → at (put_all ws c) p ≡ or_else (at ws p) (at c p)
 at-put_all [] c p = refl
 at-put_all (w ∷ ws) c p =
     find-put place_cmp place_total p w.0 w.1 (put_all ws c)
@@ -62,7 +63,7 @@ change c i e p = go (fits c e.body) refl
     go true f = put_here f (at ws p) refl
     go false f = change_left c i e p (λ t. absurd (cc)) (ap (λ b. at (cond b (put_all ws u) u) p) f)
 
-sorted-put_all : (ws : List (Place × Held)) (c : Cells) → T (is_sorted place_cmp c) → T (is_sorted place_cmp (put_all ws c))
+pub sorted-put_all : (ws : List (Place × Held)) (c : Cells) → T (is_sorted place_cmp c) → T (is_sorted place_cmp (put_all ws c))
 sorted-put_all [] c s = s
 sorted-put_all (w ∷ ws) c s = is_sorted-put place_cmp place_total w.0 w.1 (put_all ws c) (sorted-put_all ws c s)
 

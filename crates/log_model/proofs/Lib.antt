@@ -13,6 +13,7 @@ pub mod Lookups
 pub mod Moves
 pub mod OfLogs
 pub mod OneSession
+pub mod Parts
 pub mod Places
 pub mod QuietGreatest
 pub mod RowEffects

@@ -1,0 +1,49 @@
+-- What holds of the state of each host, of whatever entries in range it was made.
+use Rattle.std.specs.Prelude.{◌≡◌, ℕ, ◌≤◌, ◌<◌, cond, List, map, Option, Some, None, is_some, IsTrue}
+use Rattle.std.specs.List.{AllByRecursion}
+use Rattle.std.specs.FinMap.Entries.{is_sorted}
+use Rattle.std.specs.Ordering.{nat_cmp}
+use Rattle.host_types.specs.Limits.{index_limit}
+use Rattle.host_types.specs.declared.entry.Entry.{Entry}
+use Rattle.host_types.specs.Cells.{Place, Register_at, Alive_at, Held, marked, place_cmp, at}
+use Rattle.host_types.specs.Ranges.{IsIndex, AreCellsInRange, EntryFits, IsInRange}
+use Rattle.log_model.specs.Plain.{Kept_reply, Kept_batch, Session, session_in}
+use Rattle.log_model.specs.Hosted.{Hosted}
+use Rattle.log_model.specs.Replay.{Telling, replay_entry}
+
+abbrev pub by_id : List Session → List (ℕ × Session)
+by_id sessions = map (λ x. (x.id, x)) sessions
+
+-- whatever a session keeps is of an entry up to the last
+abbrev pub IsPast : ℕ → ℕ → Type 0
+IsPast last i = (1 ≤ i) × (i ≤ last)
+
+pub record IsSessionSound (last : ℕ) (x : Session) : Type 0 where
+  pub id : IsPast last x.id
+  pub covered : x.acked_seq ≤ x.seq
+  pub seq_in_range : x.seq ≤ index_limit
+  pub event_in_range : IsIndex x.acked_event
+  pub replies : AllByRecursion (λ (r : Kept_reply). IsPast last r.index) x.replies
+  pub batches : AllByRecursion (λ (b : Kept_batch). IsPast last b.index) x.batches
+
+-- The cells are in order and in range, the sessions by rising id; a session is open exactly where its register place stands, and
+-- where its alive place does, and nobody owns these two.
+pub record IsSound (s : Hosted) : Type 0 where
+  pub last_in_range : s.last ≤ index_limit
+  pub cells_rise : IsTrue (is_sorted place_cmp s.cells)
+  pub cells_in_range : AreCellsInRange s.cells
+  pub cells_are_past : (place : Place) (held : Held) → at s.cells place ≡ Some held → held.index ≤ s.last
+  pub sessions_rise : IsTrue (is_sorted nat_cmp (by_id s.sessions))
+  pub opened : (id : ℕ) → at s.cells (Register_at id) ≡ cond (is_some (session_in id s.sessions)) (Some (marked id)) None
+  pub heard : (id : ℕ) (held : Held) → at s.cells (Alive_at id) ≡ Some held → IsTrue (is_some (session_in id s.sessions)) × (held.owner ≡ None)
+  pub sessions_are : AllByRecursion (IsSessionSound s.last) s.sessions
+
+-- whatever entry in range is replayed, with whatever events and cut, the state stays so
+abbrev pub EntriesKeepSound : Type 0
+EntriesKeepSound =
+    (telling : Telling) (cut : ℕ) (s : Hosted) (i : ℕ) (e : Entry)
+    → IsSound s
+    → s.last < i
+    → EntryFits e
+    → IsInRange i e
+    → IsSound (replay_entry telling cut s (i, e))
