@@ -2,6 +2,7 @@
 #![tactic(auto)]
 
 mod entry;
+mod fits;
 mod lists;
 mod log_name;
 mod text;
