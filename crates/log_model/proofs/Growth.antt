@@ -8,6 +8,9 @@ use Rattle.host_types.specs.declared.entry.Event.{Event}
 use Rattle.log_model.specs.Cells.{Numbered, up_to, is_released}
 use Rattle.log_model.specs.Cleaning.{numbered}
 use Rattle.log_model.specs.Plain.{Session, State, Kept_reply, Kept_batch, nothing_yet}
+use Rattle.host_types.specs.declared.entry.Body.{Body}
+use Rattle.host_types.specs.declared.entry.Body.TheVariants as bodies
+use Rattle.log_model.specs.Hosted.{sessions_after}
 use Rattle.log_model.specs.Admission.{Item, Offered, Expired}
 use Rattle.log_model.specs.Commands.{Outcome, Decided, Declined, outcome}
 use Rattle.log_model.specs.Quiet.{kept_indexes, greatest_below, quiet}
@@ -58,7 +61,7 @@ pub to_each : (P : ℕ → Type 0) (xs : List Session) → AllKeep P xs → Each
 to_each P [] h = tt
 to_each P (x ∷ xs) h = each_append P _ (kept_of xs) (each_append P _ _ h.0.0 h.0.1) (to_each P xs h.1)
 
-from_each : (P : ℕ → Type 0) (xs : List Session) → EachOf P (kept_of xs) → AllKeep P xs
+pub from_each : (P : ℕ → Type 0) (xs : List Session) → EachOf P (kept_of xs) → AllKeep P xs
 from_each P [] h = tt
 from_each P (x ∷ xs) h =
     let rs = map (λ (r : Kept_reply). r.index) x.replies in
@@ -87,6 +90,14 @@ keep_batches : (P : ℕ → Type 0) (i : ℕ) (told : List (ℕ × Event)) → P
 keep_batches P i told p [] h = tt
 keep_batches P i told p (x ∷ xs) h =
     ((h.0.0, map_push P (λ (b : Kept_batch). b.index) x.batches (one_batch i (events_of x.id told)) h.0.1 (batch_keeps P i (events_of x.id told) p)), keep_batches P i told p xs h.1)
+
+-- what is kept after an entry was kept before it, or has its index
+pub keep_after : (P : ℕ → Type 0) (i t : ℕ) (told : List (ℕ × Event)) (b : Body) (ss : List Session) → P i → AllKeep P ss → AllKeep P (sessions_after i t told b ss)
+keep_after P i t told (bodies.Register timeout) ss p h = keep_push P ss _ h (tt, tt)
+keep_after P i t told (bodies.Alive session seq event) ss p h = keep_changed P session (kept_alive t seq event) (λ x k. (each_map P (λ (r : Kept_reply). r.index) (λ r. nat_lt seq r.seq) x.replies k.0, each_map P (λ (b : Kept_batch). b.index) (λ b. nat_lt event b.index) x.batches k.1)) ss h
+keep_after P i t told (bodies.Close session expired) ss p h = keep_batches P i told p _ (keep_filter P (λ x. not (x.id == session)) ss h)
+keep_after P i t told bodies.Tick ss p h = h
+keep_after P i t told (bodies.Command session seq effect reply) ss p h = keep_changed P session (with_reply seq i reply) (λ x k. (map_push P (λ (r : Kept_reply). r.index) x.replies (record { seq = seq; index = i; reply = reply } ∷ []) k.0 (p, tt), k.1)) (with_batches i told ss) (keep_batches P i told p ss h)
 
 -- what is kept after a step was kept before it, or has its index
 pub keep_step : (P : ℕ → Type 0) (s : State) (item : Item) → P (s.last + 1) → AllKeep P s.sessions → AllKeep P (step s item).sessions

@@ -1,3 +1,4 @@
+pub mod Admitted
 pub mod Appends
 pub mod Chains
 pub mod Changes
@@ -6,17 +7,21 @@ pub mod Compactions
 pub mod Entries
 pub mod Examples
 pub mod Growth
+pub mod HostedLogs
 pub mod Indexed
 pub mod Joined
 pub mod Law
 pub mod Lookups
 pub mod Moves
 pub mod OfLogs
+pub mod OfMachines
 pub mod OneSession
 pub mod Parts
 pub mod Places
 pub mod QuietGreatest
+pub mod Rising
 pub mod RowEffects
 pub mod SessionFields
+pub mod Sounds
 pub mod Timely
 pub mod Tracks

@@ -1,9 +1,9 @@
 -- The machine's part of the cells is changed as a machine changes its own.
-use Rattle.std.proofs.Common.{◌≡◌, ℕ, ◌+◌, Bool, true, false, cond, not, ◌&&◌, ◌||◌, ◌==◌, T, List, [], ◌∷◌, Option, Some, None, is_some, count_by, refl, sym, ap, subst, ◌∙◌, arith}
+use Rattle.std.proofs.Common.{◌≡◌, ℕ, ◌+◌, Bool, true, false, cond, not, ◌&&◌, ◌||◌, ◌==◌, T, List, [], ◌∷◌, Option, Some, None, is_some, count_by, refl, sym, ap, ◌∙◌, arith}
 use Rattle.std.proofs.lemmas.List.Sums.{sum_by-cons}
 use Rattle.std.specs.List.{list_any}
 use Rattle.std.specs.FinMap.{find, is_sorted}
-use Rattle.std.specs.FinMap.Entries.{where_key, find-where_key, is_sorted-where_key, same_entries}
+use Rattle.std.specs.FinMap.Entries.{find-where_key, is_sorted-where_key, same_entries}
 use Rattle.host_types.specs.declared.entry.Cell.{Cell}
 use Rattle.host_types.specs.declared.entry.Content.{Content}
 use Rattle.host_types.specs.declared.entry.Effect.{Effect}
@@ -12,12 +12,12 @@ use Rattle.host_types.specs.declared.entry.Body.{Body}
 use Rattle.host_types.specs.declared.entry.Body.TheVariants.{Register, Alive, Close, Tick, Command}
 use Rattle.host_types.specs.declared.entry.Reply.{Reply}
 use Rattle.host_types.specs.declared.entry.Entry.{Entry}
-use Rattle.host_types.specs.Cells.{Place, Name_at, Cell_at, Register_at, Alive_at, Held, place_cmp, Cells, at, stands, places_of, effect_puts, effect_covers, effect_fits, is_name_for, is_met, is_owned_by, without, without_owner, put_all, changed, after_effect, deletes_standing}
+use Rattle.host_types.specs.Cells.{Place, Name_at, Cell_at, Register_at, Alive_at, Held, place_cmp, Cells, at, places_of, effect_puts, effect_covers, effect_fits, is_name_for, is_met, is_owned_by, without_owner, put_all, after_effect, deletes_standing}
 use Rattle.log_model.specs.Cells.{puts, covers, owner_stands, fits_with_owner, fits, is_covered, uncovered, after}
 use Rattle.log_model.specs.Hosted.{is_machine_place, machine_cells}
 use Rattle.log_model.specs.Parts.{put_owner_stands, machine_after, session_cells}
 use Rattle.log_model.proofs.Places.{place_total, exact_places}
-use Rattle.log_model.proofs.Lookups.{T_from, from_T}
+use Rattle.log_model.proofs.Lookups.{T_from}
 use Rattle.log_model.proofs.Changes.{or_else, at-put_all, at-uncovered, sorted-put_all, sorted-after}
 
 pub at_machine : (c : Cells) (p : Place) → at (machine_cells c) p ≡ cond (is_machine_place p) (at c p) None
@@ -98,11 +98,11 @@ module _ (c : Cells) (i t : ℕ) (s : T (is_sorted place_cmp c)) where
   -- an entry that neither puts nor covers at a machine's places
   stays : (e : Entry) → ((p : Place) → is_machine_place p ≡ true → at (after c i e) p ≡ at c p) → machine_cells (after c i e) ≡ m
   stays e same = is_part (after c i e) m (sorted_there e) (sorted_machine c s) (λ p.
-    elim (is_machine_place p) as (λ b. is_machine_place p ≡ b → cond b (at (after c i e) p) None ≡ cond b (at c p) None) [
-      | true ↦ λ q. same p q
-      | false ↦ λ q. refl
-    ] refl
-    ∙ sym (at_machine c p))
+      elim (is_machine_place p) as (λ b. is_machine_place p ≡ b → cond b (at (after c i e) p) None ≡ cond b (at c p) None) [
+        | true ↦ λ q. same p q
+        | false ↦ λ q. refl
+      ] refl
+      ∙ sym (at_machine c p))
 
   -- a command whose owner stands
   module _ (session seq : ℕ) (f : Effect) (reply : Reply) where
@@ -142,13 +142,13 @@ module _ (c : Cells) (i t : ℕ) (s : T (is_sorted place_cmp c)) where
 
     left_out : fits_with_owner c f ≡ false → ((p : Place) → effect_covers f p ≡ false) → machine_cells (after c i e) ≡ m
     left_out unfit uncovering = stays e (λ p q.
-      put_or_not (fits_with_owner c f) ws (u c) p
-      ∙ ap (λ b. or_else (cond b (at ws p) None) (at (u c) p)) unfit
-      ∙ at-uncovered (Command session seq f reply) c p
-      ∙ elim (at c p) as (λ o. cond (not (is_covered (Command session seq f reply) p o)) o no_held ≡ o) [
-        | None ↦ refl
-        | Some h ↦ ap (λ b. cond (not b) (Some h) no_held) (uncovering p)
-      ])
+        put_or_not (fits_with_owner c f) ws (u c) p
+        ∙ ap (λ b. or_else (cond b (at ws p) None) (at (u c) p)) unfit
+        ∙ at-uncovered (Command session seq f reply) c p
+        ∙ elim (at c p) as (λ o. cond (not (is_covered (Command session seq f reply) p o)) o no_held ≡ o) [
+          | None ↦ refl
+          | Some h ↦ ap (λ b. cond (not b) (Some h) no_held) (uncovering p)
+        ])
 
   command_part : (session seq : ℕ) (f : Effect) (reply : Reply) → machine_cells (after c i (record { time = t; body = Command session seq f reply })) ≡ cond (put_owner_stands c f) (after_effect m i f) m
   command_part session seq (Put instance cell content owner) reply =

@@ -3,14 +3,17 @@ pub mod Batches
 pub mod Cells
 pub mod Cleaning
 pub mod Commands
+pub mod Fitting
 pub mod Hosted
 pub mod Kept
 pub mod Layout
 pub mod Log
+pub mod Machines
 pub mod Parts
 pub mod Plain
 pub mod Quiet
 pub mod Replay
+pub mod ReplayLaws
 pub mod Rows
 pub mod Serving
 pub mod Sessions

@@ -9,7 +9,8 @@ use Rattle.host_types.specs.declared.entry.Effect.TheVariants.{Put}
 use Rattle.host_types.specs.declared.entry.Entry.{Entry}
 use Rattle.host_types.specs.Cells.{Register_at, Alive_at, place_cmp, Cells, at, stands, places_of, after_effect, without_owner}
 use Rattle.log_model.specs.Cells.{owner_stands, after}
-use Rattle.log_model.specs.Hosted.{is_machine_place, machine_cells}
+use Rattle.log_model.specs.Hosted.{Hosted, is_machine_place, machine_cells}
+use Rattle.log_model.specs.Sound.{IsSound}
 
 -- whoever would own what the effect puts is an open session, or nobody is
 abbrev pub put_owner_stands : Cells → Effect → Bool
@@ -38,6 +39,12 @@ abbrev pub alive_after : Cells → ℕ → Body → ℕ → Option ℕ
 alive_after cells i (Alive session seq event) id = cond (session == id && stands cells (Register_at id)) (Some i) (alive_index cells id)
 alive_after cells i (Close session expired) id = cond (session == id) None (alive_index cells id)
 alive_after cells i _ id = alive_index cells id
+
+abbrev pub AlivesFollow : Type 0
+AlivesFollow =
+    (s : Hosted) (i : ℕ) (e : Entry) (id : ℕ)
+    → IsSound s
+    → alive_index (after s.cells i e) id ≡ alive_after s.cells i e.body id
 
 -- the places of sessions
 abbrev pub session_cells : Cells → Cells

@@ -1,8 +1,7 @@
 -- What holds of the state of each host, of whatever entries in range it was made.
-use Rattle.std.specs.Prelude.{◌≡◌, ℕ, ◌≤◌, ◌<◌, cond, List, map, Option, Some, None, is_some, IsTrue}
+use Rattle.std.specs.Prelude.{◌≡◌, ℕ, ◌≤◌, ◌<◌, cond, List, [], ◌∷◌, Some, None, is_some, IsTrue}
 use Rattle.std.specs.List.{AllByRecursion}
 use Rattle.std.specs.FinMap.Entries.{is_sorted}
-use Rattle.std.specs.Ordering.{nat_cmp}
 use Rattle.host_types.specs.Limits.{index_limit}
 use Rattle.host_types.specs.declared.entry.Entry.{Entry}
 use Rattle.host_types.specs.Cells.{Place, Register_at, Alive_at, Held, marked, place_cmp, at}
@@ -11,8 +10,14 @@ use Rattle.log_model.specs.Plain.{Kept_reply, Kept_batch, Session, session_in}
 use Rattle.log_model.specs.Hosted.{Hosted}
 use Rattle.log_model.specs.Replay.{Telling, replay_entry}
 
-abbrev pub by_id : List Session → List (ℕ × Session)
-by_id sessions = map (λ x. (x.id, x)) sessions
+-- each id is above this one
+abbrev pub Above : ℕ → List Session → Type 0
+Above n sessions = AllByRecursion (λ x. n < x.id) sessions
+
+-- the sessions stand by rising id
+abbrev pub Rises : List Session → Type 0
+Rises [] = Unit {0}
+Rises (x ∷ sessions) = Above x.id sessions × Rises sessions
 
 -- whatever a session keeps is of an entry up to the last
 abbrev pub IsPast : ℕ → ℕ → Type 0
@@ -24,7 +29,7 @@ pub record IsSessionSound (last : ℕ) (x : Session) : Type 0 where
   pub seq_in_range : x.seq ≤ index_limit
   pub event_in_range : IsIndex x.acked_event
   pub replies : AllByRecursion (λ (r : Kept_reply). IsPast last r.index) x.replies
-  pub batches : AllByRecursion (λ (b : Kept_batch). IsPast last b.index) x.batches
+  pub batches : AllByRecursion (λ (b : Kept_batch). (x.acked_event < b.index) × (b.index ≤ last)) x.batches
 
 -- The cells are in order and in range, the sessions by rising id; a session is open exactly where its register place stands, and
 -- where its alive place does, and nobody owns these two.
@@ -33,7 +38,7 @@ pub record IsSound (s : Hosted) : Type 0 where
   pub cells_rise : IsTrue (is_sorted place_cmp s.cells)
   pub cells_in_range : AreCellsInRange s.cells
   pub cells_are_past : (place : Place) (held : Held) → at s.cells place ≡ Some held → held.index ≤ s.last
-  pub sessions_rise : IsTrue (is_sorted nat_cmp (by_id s.sessions))
+  pub sessions_rise : Rises s.sessions
   pub opened : (id : ℕ) → at s.cells (Register_at id) ≡ cond (is_some (session_in id s.sessions)) (Some (marked id)) None
   pub heard : (id : ℕ) (held : Held) → at s.cells (Alive_at id) ≡ Some held → IsTrue (is_some (session_in id s.sessions)) × (held.owner ≡ None)
   pub sessions_are : AllByRecursion (IsSessionSound s.last) s.sessions

@@ -4,9 +4,13 @@
 
 ghost use Rattle.log_model.specs.Cleaning.{AppendKeeps, CentralLaw, CentralLawOfLogs, FreshIsCleaned, ReleasedGrows};
 ghost use Rattle.log_model.specs.Kept.{MajorKeeps, MinorKeeps};
+ghost use Rattle.log_model.specs.Machines.{AdmittedStaysLive, CentralLawOfMachines, HostedLogGrows, HostedLogIsWhole, HostedQuietGrows, LogsAreLive};
+ghost use Rattle.log_model.specs.Parts.{AlivesFollow, MachinePartFollows, PlacesAreParted};
 ghost use Rattle.log_model.specs.Quiet.{QuietGrows, QuietIsGreatest};
+ghost use Rattle.log_model.specs.ReplayLaws.{AdmittedIsReplayed};
 ghost use Rattle.log_model.specs.Serving.{BatchesAreLinked, BatchesGrow, ClientTakesAll, ClientTakesRun, KeepsTheRest};
 ghost use Rattle.log_model.specs.Sessions.{SessionsLaw};
+ghost use Rattle.log_model.specs.Sound.{EntriesKeepSound};
 
 use host_types::{Index, Refusal};
 
@@ -112,4 +116,59 @@ pub fn client_takes_run()
 /// A client that starts at the acknowledged event and is served what is kept takes it all.
 pub fn client_takes_all()
     ensures { ClientTakesAll }
+{}
+
+/// The central law over any machine whose decisions are lawful and whose places have one owner.
+pub fn central_law_of_machines()
+    ensures { CentralLawOfMachines }
+{}
+
+/// One item more: the fold is stepped, the stored form has its entry at the end, and it is a log where the item is admitted.
+pub fn hosted_log_grows()
+    ensures { HostedLogGrows }
+{}
+
+/// A log has as many entries as items, and a host over it has their cells.
+pub fn hosted_log_is_whole()
+    ensures { HostedLogIsWhole }
+{}
+
+/// As a host's log grows, its quiet doesn't fall.
+pub fn hosted_quiet_grows()
+    ensures { HostedQuietGrows }
+{}
+
+/// Whatever entry in range is replayed, a host's state stays sound.
+pub fn entries_keep_sound()
+    ensures { EntriesKeepSound }
+{}
+
+/// An admitted item's entry is in range, and the state of its log stays sound.
+pub fn admitted_stays_live()
+    ensures { AdmittedStaysLive }
+{}
+
+/// The state of a whole log is sound.
+pub fn logs_are_live()
+    ensures { LogsAreLive }
+{}
+
+/// An admitted item does what a replay of its entry does, with no cut.
+pub fn admitted_is_replayed()
+    ensures { AdmittedIsReplayed }
+{}
+
+/// The machine's part of the cells is changed as a machine changes its own: by an effect whose owner stands, and by a close.
+pub fn machine_part_follows()
+    ensures { MachinePartFollows }
+{}
+
+/// Which entry is held as a session's last keep-alive, after each entry.
+pub fn alives_follow()
+    ensures { AlivesFollow }
+{}
+
+/// What an index holds, it holds in the machine's part or at the places of sessions.
+pub fn places_are_parted()
+    ensures { PlacesAreParted }
 {}
