@@ -222,7 +222,7 @@ module _ (d : MachineDecision) (lawful : MachineIsLawful d) (s : Hosted) (h : Is
 
 -- ---- one step
 
-placed_all : (s : Hosted) → IsSound s → AcksArePast s → AllByRecursion (Placed s.last) s.sessions
+pub placed_all : (s : Hosted) → IsSound s → AcksArePast s → AllByRecursion (Placed s.last) s.sessions
 placed_all s h a = go s.sessions h.sessions_are a
   where
     go : (ss : List Session) → AllByRecursion (IsSessionSound s.last) ss → AllByRecursion (λ (x : Session). x.acked_event ≤ s.last) ss → AllByRecursion (Placed s.last) ss

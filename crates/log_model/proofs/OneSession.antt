@@ -12,7 +12,7 @@ abbrev pub or_new : Option Session → Option Session → Option Session
 or_new None new = new
 or_new (Some x) new = Some x
 
-abbrev no_session : Option Session
+abbrev pub no_session : Option Session
 no_session = None
 
 abbrev pub with_batch : ℕ → List (ℕ × Event) → Session → Session

@@ -13,7 +13,7 @@ indexed_from : (s : State) (items : List Item) → AllKeep (λ i. 1 ≤ i) s.ses
 indexed_from s [] h = h
 indexed_from s (item ∷ items) h = indexed_from (step s item) items (keep_step (λ i. 1 ≤ i) s item (omega arith) h)
 
-none_up_to : (k q : ℕ) (is : List ℕ) → k ≤ q → EachOf (λ i. 1 ≤ i) is → EachOf (λ i. q ≤ i - 1) is → list_any (λ i. nat_le i k) is ≡ false
+pub none_up_to : (k q : ℕ) (is : List ℕ) → k ≤ q → EachOf (λ i. 1 ≤ i) is → EachOf (λ i. q ≤ i - 1) is → list_any (λ i. nat_le i k) is ≡ false
 none_up_to k q [] l h j = refl
 none_up_to k q (i ∷ is) l h j = ap (λ b. b || list_any (λ i. nat_le i k) is) (lt-leb i k (omega (arith, h.0, j.0))) ∙ none_up_to k q is l h.1 j.1
 

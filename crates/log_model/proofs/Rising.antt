@@ -56,15 +56,15 @@ above_push : (n : ℕ) (xs : List Session) (y : Session) → n < y.id → Above 
 above_push n [] y l a = (l, tt)
 above_push n (x ∷ xs) y l a = (a.0, above_push n xs y l a.1)
 
-rises_push : (i : ℕ) (e : Entry) (es : Numbered) (xs : List Session) (y : Session) → y.id ≡ i → Ready ((i, e) ∷ es) xs → Rises xs → Rises (xs ++ y ∷ [])
+pub rises_push : (i : ℕ) (e : Entry) (es : Numbered) (xs : List Session) (y : Session) → y.id ≡ i → Ready ((i, e) ∷ es) xs → Rises xs → Rises (xs ++ y ∷ [])
 rises_push i e es [] y s d r = (tt, tt)
 rises_push i e es (x ∷ xs) y s d r = let l : x.id < i = d.0.0 in (above_push x.id xs y (omega (arith, s)) r.0, rises_push i e es xs y s d.1 r.1)
 
-ready_push : (es : Numbered) (xs : List Session) (y : Session) → Below y.id es → Ready es xs → Ready es (xs ++ y ∷ [])
+pub ready_push : (es : Numbered) (xs : List Session) (y : Session) → Below y.id es → Ready es xs → Ready es (xs ++ y ∷ [])
 ready_push es [] y b r = (b, tt)
 ready_push es (x ∷ xs) y b r = (r.0, ready_push es xs y b r.1)
 
-ready_next : (e : ℕ × Entry) (es : Numbered) (xs : List Session) → Ready (e ∷ es) xs → Ready es xs
+pub ready_next : (e : ℕ × Entry) (es : Numbered) (xs : List Session) → Ready (e ∷ es) xs → Ready es xs
 ready_next e es [] r = tt
 ready_next e es (x ∷ xs) r = (r.0.1, ready_next e es xs r.1)
 
@@ -75,12 +75,12 @@ both_cond : (b : Bool) (f : Session → Session) → ((x : Session) → (f x).id
 both_cond true f same es xs h = both_mapped f same es xs h
 both_cond false f same es xs h = h
 
-both_changed : (session : ℕ) (f : Session → Session) → ((x : Session) → (f x).id ≡ x.id) → (es : Numbered) (xs : List Session) → Ready es xs × Rises xs → Ready es (changed session f xs) × Rises (changed session f xs)
+pub both_changed : (session : ℕ) (f : Session → Session) → ((x : Session) → (f x).id ≡ x.id) → (es : Numbered) (xs : List Session) → Ready es xs × Rises xs → Ready es (changed session f xs) × Rises (changed session f xs)
 both_changed session f same es xs h =
     let ids = changed_id session f same in
     (ready_map (λ x. cond (x.id == session) (f x) x) ids es xs h.0, rises_map (λ x. cond (x.id == session) (f x) x) ids xs h.1)
 
-both_filtered : (p : Session → Bool) (es : Numbered) (xs : List Session) → Ready es xs × Rises xs → Ready es (filter p xs) × Rises (filter p xs)
+pub both_filtered : (p : Session → Bool) (es : Numbered) (xs : List Session) → Ready es xs × Rises xs → Ready es (filter p xs) × Rises (filter p xs)
 both_filtered p es xs h = (ready_filter p es xs h.0, rises_filter p xs h.1)
 
 trimmed_id : (event : ℕ) (x : Session) → (trimmed event x).id ≡ x.id

@@ -7,7 +7,7 @@ ghost use Rattle.log_model.specs.Kept.{MajorKeeps, MinorKeeps};
 ghost use Rattle.log_model.specs.Machines.{AdmittedStaysLive, CentralLawOfMachines, HostedLogGrows, HostedLogIsWhole, HostedQuietGrows, LogsAreLive};
 ghost use Rattle.log_model.specs.Parts.{AlivesFollow, MachinePartFollows, PlacesAreParted};
 ghost use Rattle.log_model.specs.Quiet.{QuietGrows, QuietIsGreatest};
-ghost use Rattle.log_model.specs.ReplayLaws.{AdmittedIsReplayed};
+ghost use Rattle.log_model.specs.ReplayLaws.{AdmittedIsReplayed, ReplayGivesFold, ReplayGivesHostedFold, ReplayLaw};
 ghost use Rattle.log_model.specs.Serving.{BatchesAreLinked, BatchesGrow, ClientTakesAll, ClientTakesRun, KeepsTheRest};
 ghost use Rattle.log_model.specs.Sessions.{SessionsLaw};
 ghost use Rattle.log_model.specs.Sound.{EntriesKeepSound};
@@ -171,4 +171,19 @@ pub fn alives_follow()
 /// What an index holds, it holds in the machine's part or at the places of sessions.
 pub fn places_are_parted()
     ensures { PlacesAreParted }
+{}
+
+/// What is left of a lawful log is replayed with its cut as the whole is with none.
+pub fn replay_law()
+    ensures { ReplayLaw }
+{}
+
+/// A replay of a cleaned log gives the fold, where the events that are read off the cells are the plain ones.
+pub fn replay_gives_fold()
+    ensures { ReplayGivesFold }
+{}
+
+/// A replay of a cleaned log gives the fold over any machine whose decisions are lawful, with the machine's own events.
+pub fn replay_gives_hosted_fold()
+    ensures { ReplayGivesHostedFold }
 {}
