@@ -1,0 +1,6 @@
+pub mod Rising
+pub mod Serving
+pub mod Kept
+pub mod Inside
+pub mod Taking
+pub mod Dropping
