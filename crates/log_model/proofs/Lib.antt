@@ -8,6 +8,7 @@ pub mod Compactions
 pub mod Entries
 pub mod Examples
 pub mod Freely
+pub mod Gather
 pub mod Growth
 pub mod Guards
 pub mod HostedLogs
@@ -15,6 +16,7 @@ pub mod Indexed
 pub mod Joined
 pub mod Law
 pub mod Lookups
+pub mod Markings
 pub mod Moves
 pub mod OfLogs
 pub mod OfMachines
@@ -29,7 +31,12 @@ pub mod Rising
 pub mod RowEffects
 pub mod Run
 pub mod SessionFields
+pub mod Sets
+pub mod Shown
+pub mod ShownCloses
+pub mod ShownRows
 pub mod Sounds
+pub mod Tellings
 pub mod Timely
 pub mod Tracks
 pub mod WholeFold

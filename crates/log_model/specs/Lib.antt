@@ -12,11 +12,14 @@ pub mod Machines
 pub mod Parts
 pub mod Plain
 pub mod Quiet
+pub mod Released
 pub mod Replay
 pub mod ReplayLaws
 pub mod Rows
 pub mod Serving
 pub mod Sessions
+pub mod Shows
 pub mod Sound
 pub mod Step
 pub mod Stored
+pub mod Telling

@@ -7,10 +7,13 @@ ghost use Rattle.log_model.specs.Kept.{MajorKeeps, MinorKeeps};
 ghost use Rattle.log_model.specs.Machines.{AdmittedStaysLive, CentralLawOfMachines, HostedLogGrows, HostedLogIsWhole, HostedQuietGrows, LogsAreLive};
 ghost use Rattle.log_model.specs.Parts.{AlivesFollow, MachinePartFollows, PlacesAreParted};
 ghost use Rattle.log_model.specs.Quiet.{QuietGrows, QuietIsGreatest};
+ghost use Rattle.log_model.specs.Released.{MarksLaw};
 ghost use Rattle.log_model.specs.ReplayLaws.{AdmittedIsReplayed, ReplayGivesFold, ReplayGivesHostedFold, ReplayLaw};
 ghost use Rattle.log_model.specs.Serving.{BatchesAreLinked, BatchesGrow, ClientTakesAll, ClientTakesRun, KeepsTheRest};
 ghost use Rattle.log_model.specs.Sessions.{SessionsLaw};
+ghost use Rattle.log_model.specs.Shows.{CloseShows, OthersShow, RowsShow};
 ghost use Rattle.log_model.specs.Sound.{EntriesKeepSound};
+ghost use Rattle.log_model.specs.Telling.{CellsShow, CellsTell, ReplayOfLogs};
 
 use host_types::{Index, Refusal};
 
@@ -186,4 +189,39 @@ pub fn replay_gives_fold()
 /// A replay of a cleaned log gives the fold over any machine whose decisions are lawful, with the machine's own events.
 pub fn replay_gives_hosted_fold()
     ensures { ReplayGivesHostedFold }
+{}
+
+/// From the cut of a cleaned log on, the marks that its replay makes tell what is released in the whole log.
+pub fn marks_law()
+    ensures { MarksLaw }
+{}
+
+/// After what a row stores, the cells show the row's resource, for each of the nine kinds.
+pub fn rows_show()
+    ensures { RowsShow }
+{}
+
+/// After a session is closed, the cells show each resource without it.
+pub fn closes_show()
+    ensures { CloseShows }
+{}
+
+/// What leaves the cells of an instance leaves what they show.
+pub fn others_show()
+    ensures { OthersShow }
+{}
+
+/// At each moment of a log its cells show the names, and the resources that tell events.
+pub fn cells_show()
+    ensures { CellsShow }
+{}
+
+/// The events that are read off the cells are those of the step.
+pub fn cells_tell()
+    ensures { CellsTell }
+{}
+
+/// A replay of a cleaned log gives the fold: cells, sessions, kept replies and kept batches, last index and time.
+pub fn replay_of_logs()
+    ensures { ReplayOfLogs }
 {}
