@@ -1,5 +1,5 @@
 -- The cells of a log show at each moment the names and the resources that tell events.
-use Rattle.std.proofs.Common.{◌≡◌, ℕ, ℤ, ◌+◌, ◌<◌, ◌≤◌, Bool, true, false, cond, not, ◌&&◌, ◌==◌, nat_le, T, List, [], ◌∷◌, ◌++◌, map, length, Option, Some, None, is_some, refl, sym, ap, subst, ◌∙◌, arith, eqb-true}
+use Rattle.std.proofs.Common.{◌≡◌, ◌⊎◌, inl, inr, ⊎_elim, ℕ, ℤ, ◌+◌, ◌<◌, ◌≤◌, Bool, true, false, cond, not, ◌&&◌, ◌==◌, nat_le, T, List, [], ◌∷◌, ◌++◌, map, length, Option, Some, None, is_some, refl, sym, ap, subst, ◌∙◌, arith, eqb-true}
 use Rattle.std.proofs.lemmas.Bool.{and_parts, false_from_ne_true}
 use Rattle.std.specs.List.{filter, list_any}
 use Rattle.std.specs.FinMap.{find, is_sorted}
@@ -8,7 +8,7 @@ use Rattle.std.specs.Ordering.{nat_cmp, eq_by_cmp}
 use Rattle.host_types.specs.declared.entry.Kind.{Kind}
 use Rattle.host_types.specs.declared.entry.Kind.TheVariants as kind
 use Rattle.host_types.specs.declared.entry.Cell.{Cell}
-use Rattle.host_types.specs.declared.entry.Cell.TheVariants.{Pair, At, Waiter, Of}
+use Rattle.host_types.specs.declared.entry.Cell.TheVariants.{One, Named, Pair, At, Waiter, Of}
 use Rattle.host_types.specs.declared.entry.Ask.{Ask}
 use Rattle.host_types.specs.declared.entry.Ask.TheVariants.{Register, Alive, Unregister, Tick, Command}
 use Rattle.host_types.specs.declared.entry.Body.{Body}
@@ -31,7 +31,7 @@ use Rattle.log_model.specs.Commands.{Outcome, Decided, Declined, with_plain, row
 use Rattle.log_model.specs.Step.{closed_name, commanded, asked, step}
 use Rattle.log_model.specs.Stored.{decided_body, asked_body, entry_of, is_admitted, is_log_from}
 use Rattle.log_model.specs.Shows.{Shows, IsFresh, OwnersSuit}
-use Rattle.log_model.specs.Telling.{name_held, by_instance, EachName, ShowsTold, ShowsState, ShownFrom, CellsShow, CellsTell, ReplayOfLogs, told_by_cells}
+use Rattle.log_model.specs.Telling.{name_held, by_instance, EachName, ShowsState, ShownFrom, CellsShow, CellsTell, ReplayOfLogs, told_by_cells}
 use Rattle.log_model.proofs.Places.{place_total, exact_places}
 use Rattle.log_model.proofs.Lookups.{from_T, found_from_any}
 use Rattle.log_model.proofs.Changes.{Change, Written, Taken, Left, change, sorted-after}
@@ -148,65 +148,144 @@ put_instance c i (Commanded session seq (Put k other content owner) reply) m cel
 put_instance c i (Commanded session seq effect reply) m cell h s f w = absurd (none_some w)
 put_instance c i _ m cell h s f w = absurd (none_some w)
 
--- only some kinds tell events
+-- whose cells have owners
 
-tells_kind : Kind → Bool
-tells_kind kind.Lock = true
-tells_kind kind.Group = true
-tells_kind kind.Topic = true
-tells_kind _ = false
+-- the cells of the other kinds have none
+abbrev Unowned : ℕ → Cells → Kind → Type 0
+Unowned m c kind.Lock = Unit {0}
+Unowned m c kind.Group = Unit {0}
+Unowned m c kind.Topic = Unit {0}
+Unowned m c _ = (cell : Cell) (held : Held) → at c (Cell_at m cell) ≡ Some held → held.owner ≡ None
 
-untold : (m : ℕ) (c : Cells) (plain : Plain) → tells_kind (kind_of plain) ≡ false → ShowsTold m c plain
-unfolding tells_kind
-untold m c (Lock_is ws) e = absurd (cc)
-untold m c (Group_is ms ls) e = absurd (cc)
-untold m c (Topic_is ls) e = absurd (cc)
-untold m c (Value_is cur) e = tt
-untold m c (Counter_is number) e = tt
-untold m c (Map_is pairs) e = tt
-untold m c (Multimap_is pairs) e = tt
-untold m c (Set_is words) e = tt
-untold m c (Queue_is items) e = tt
+abbrev PutsUnowned : Kind → Effect → Type 0
+PutsUnowned kind.Lock effect = Unit {0}
+PutsUnowned kind.Group effect = Unit {0}
+PutsUnowned kind.Topic effect = Unit {0}
+PutsUnowned k (Put instance cell content owner) = owner ≡ None
+PutsUnowned k _ = Unit {0}
 
-shown_told : (m : ℕ) (c : Cells) (plain : Plain) → Shows m c plain → ShowsTold m c plain
-shown_told m c (Lock_is ws) s = s
-shown_told m c (Group_is ms ls) s = s
-shown_told m c (Topic_is ls) s = s
-shown_told m c (Value_is cur) s = tt
-shown_told m c (Counter_is number) s = tt
-shown_told m c (Map_is pairs) s = tt
-shown_told m c (Multimap_is pairs) s = tt
-shown_told m c (Set_is words) s = tt
-shown_told m c (Queue_is items) s = tt
+abbrev RowUnowned : Kind → Row → Type 0
+RowUnowned k (Does effect reply next told) = PutsUnowned k effect
+RowUnowned k _ = Unit {0}
 
-told_same : (c d : Cells) (m : ℕ) (plain : Plain) → ((cell : Cell) → at d (Cell_at m cell) ≡ at c (Cell_at m cell)) → ShowsTold m c plain → ShowsTold m d plain
-told_same c d m (Lock_is ws) same s = others_shown c d m (Lock_is ws) same s
-told_same c d m (Group_is ms ls) same s = others_shown c d m (Group_is ms ls) same s
-told_same c d m (Topic_is ls) same s = others_shown c d m (Topic_is ls) same s
-told_same c d m (Value_is cur) same s = tt
-told_same c d m (Counter_is number) same s = tt
-told_same c d m (Map_is pairs) same s = tt
-told_same c d m (Multimap_is pairs) same s = tt
-told_same c d m (Set_is words) same s = tt
-told_same c d m (Queue_is items) same s = tt
+either_unowned : (k : Kind) (b : Bool) (r s : Row) → RowUnowned k r → RowUnowned k s → RowUnowned k (either b r s)
+either_unowned k true r s h g = h
+either_unowned k false r s h g = g
 
-new_told : (m : ℕ) (c : Cells) (k : Kind) → ((cell : Cell) → at c (Cell_at m cell) ≡ None) → ShowsTold m c (new_plain k)
-new_told m c kind.Lock none = (refl, λ a b. ap is_some (none (Waiter a b)))
-new_told m c kind.Group none = (refl, λ j. ap (option_map (λ (h : Held). (h.content, h.owner))) (none (At j)), (refl, λ q. ap is_some (none (Of q))))
-new_told m c kind.Topic none = (refl, λ q. ap is_some (none (Of q)))
-new_told m c kind.Value none = tt
-new_told m c kind.Counter none = tt
-new_told m c kind.Map none = tt
-new_told m c kind.Multimap none = tt
-new_told m c kind.Set none = tt
-new_told m c kind.Queue none = tt
+takes_out_unowned : (c : Call) (q : List (ℕ × List ℕ)) (o : Option (ℕ × List ℕ)) (found : List ℕ → Reply) (missing : Reply) → RowUnowned kind.Queue (takes_out c q o found missing)
+takes_out_unowned c q None found missing = tt
+takes_out_unowned c q (Some item) found missing = tt
+
+value_unowned : (c : Call) (cur : Option (List ℕ)) (op : Op) → RowUnowned kind.Value (value_row c cur op)
+value_unowned c cur (op.Set word) = refl
+value_unowned c cur _ = search (either_unowned, refl, tt)
+
+counter_unowned : (c : Call) (cur : ℤ) (op : Op) → RowUnowned kind.Counter (counter_row c cur op)
+counter_unowned c cur (op.Reset number) = refl
+counter_unowned c cur _ = search (either_unowned, refl, tt)
+
+map_unowned : (c : Call) (m : List (List ℕ × List ℕ)) (op : Op) → RowUnowned kind.Map (map_row c m op)
+map_unowned c m (op.Put key word) = refl
+map_unowned c m _ = search (either_unowned, refl, tt)
+
+multimap_unowned : (c : Call) (m : List (List ℕ × List ℕ)) (op : Op) → RowUnowned kind.Multimap (multimap_row c m op)
+multimap_unowned c m (op.Put key word) = search (either_unowned, refl, tt)
+multimap_unowned c m _ = search (either_unowned, refl, tt)
+
+set_unowned : (c : Call) (m : List (List ℕ)) (op : Op) → RowUnowned kind.Set (set_row c m op)
+set_unowned c m (op.Insert word) = search (either_unowned, refl, tt)
+set_unowned c m _ = search (either_unowned, refl, tt)
+
+queue_unowned : (c : Call) (q : List (ℕ × List ℕ)) (op : Op) → RowUnowned kind.Queue (queue_row c q op)
+queue_unowned c q (op.Enqueue word) = refl
+queue_unowned c q op.Poll = takes_out_unowned c q _ _ _
+queue_unowned c q (op.RemoveWord word) = takes_out_unowned c q _ _ _
+queue_unowned c q _ = search (either_unowned, refl, tt)
+
+owned_row : (k : Kind) → ((effect : Effect) → PutsUnowned k effect) → (r : Row) → RowUnowned k r
+owned_row k all (Does effect reply next told) = all effect
+owned_row k all (Out_of_range cur) = tt
+owned_row k all Of_no_kind = tt
+
+row_unowned : (c : Call) (plain : Plain) (op : Op) → RowUnowned (kind_of plain) (row c plain op)
+row_unowned c (Value_is cur) op = value_unowned c cur op
+row_unowned c (Counter_is number) op = counter_unowned c number op
+row_unowned c (Map_is pairs) op = map_unowned c pairs op
+row_unowned c (Multimap_is pairs) op = multimap_unowned c pairs op
+row_unowned c (Set_is words) op = set_unowned c words op
+row_unowned c (Queue_is items) op = queue_unowned c items op
+row_unowned c (Lock_is waiters) op = owned_row kind.Lock (λ effect. tt) (lock_row c waiters op)
+row_unowned c (Group_is members listeners) op = owned_row kind.Group (λ effect. tt) (group_row c members listeners op)
+row_unowned c (Topic_is listeners) op = owned_row kind.Topic (λ effect. tt) (topic_row c listeners op)
+
+-- of a kind without owners
+plainly : (m : ℕ) (c : Cells) (k : Kind) → ((cell : Cell) (held : Held) → at c (Cell_at m cell) ≡ Some held → held.owner ≡ None) → Unowned m c k
+plainly m c kind.Lock h = tt
+plainly m c kind.Group h = tt
+plainly m c kind.Topic h = tt
+plainly m c kind.Value h = h
+plainly m c kind.Counter h = h
+plainly m c kind.Map h = h
+plainly m c kind.Multimap h = h
+plainly m c kind.Set h = h
+plainly m c kind.Queue h = h
+
+-- what stands later stood before, or is put with no owner
+unowned_later : (m : ℕ) (c d : Cells) (k : Kind) → ((cell : Cell) (held : Held) → at d (Cell_at m cell) ≡ Some held → (held.owner ≡ None) ⊎ (at c (Cell_at m cell) ≡ Some held)) → Unowned m c k → Unowned m d k
+unowned_later m c d kind.Lock later h = tt
+unowned_later m c d kind.Group later h = tt
+unowned_later m c d kind.Topic later h = tt
+unowned_later m c d kind.Value later h = λ cell held e. ⊎_elim (λ (n : held.owner ≡ None). n) (λ (f : at c (Cell_at m cell) ≡ Some held). h cell held f) (later cell held e)
+unowned_later m c d kind.Counter later h = λ cell held e. ⊎_elim (λ (n : held.owner ≡ None). n) (λ (f : at c (Cell_at m cell) ≡ Some held). h cell held f) (later cell held e)
+unowned_later m c d kind.Map later h = λ cell held e. ⊎_elim (λ (n : held.owner ≡ None). n) (λ (f : at c (Cell_at m cell) ≡ Some held). h cell held f) (later cell held e)
+unowned_later m c d kind.Multimap later h = λ cell held e. ⊎_elim (λ (n : held.owner ≡ None). n) (λ (f : at c (Cell_at m cell) ≡ Some held). h cell held f) (later cell held e)
+unowned_later m c d kind.Set later h = λ cell held e. ⊎_elim (λ (n : held.owner ≡ None). n) (λ (f : at c (Cell_at m cell) ≡ Some held). h cell held f) (later cell held e)
+unowned_later m c d kind.Queue later h = λ cell held e. ⊎_elim (λ (n : held.owner ≡ None). n) (λ (f : at c (Cell_at m cell) ≡ Some held). h cell held f) (later cell held e)
+
+put_by_nobody : (m i : ℕ) (effect : Effect) (cell : Cell) (held : Held) → PutsUnowned kind.Value effect → at (effect_puts i effect) (Cell_at m cell) ≡ Some held → held.owner ≡ None
+put_by_nobody m i (Put instance other content owner) cell held none f = ap (λ (h : Held). h.owner) (sym (single (Cell_at instance other) (filled i content owner) (Cell_at m cell) held f).1) ∙ none
+put_by_nobody m i (Create name other) cell held none f = absurd (none_some f)
+put_by_nobody m i _ cell held none f = absurd (none_some f)
+
+-- the same where the effect of a kind puts it
+unowned_put : (m i : ℕ) (c d : Cells) (k : Kind) (effect : Effect) → PutsUnowned k effect → ((cell : Cell) (held : Held) → at d (Cell_at m cell) ≡ Some held → (at (effect_puts i effect) (Cell_at m cell) ≡ Some held) ⊎ (at c (Cell_at m cell) ≡ Some held)) → Unowned m c k → Unowned m d k
+unowned_put m i c d kind.Lock effect puts later h = tt
+unowned_put m i c d kind.Group effect puts later h = tt
+unowned_put m i c d kind.Topic effect puts later h = tt
+unowned_put m i c d kind.Value effect puts later h = λ cell held e. ⊎_elim (λ (f : at (effect_puts i effect) (Cell_at m cell) ≡ Some held). put_by_nobody m i effect cell held puts f) (λ (f : at c (Cell_at m cell) ≡ Some held). h cell held f) (later cell held e)
+unowned_put m i c d kind.Counter effect puts later h = λ cell held e. ⊎_elim (λ (f : at (effect_puts i effect) (Cell_at m cell) ≡ Some held). put_by_nobody m i effect cell held puts f) (λ (f : at c (Cell_at m cell) ≡ Some held). h cell held f) (later cell held e)
+unowned_put m i c d kind.Map effect puts later h = λ cell held e. ⊎_elim (λ (f : at (effect_puts i effect) (Cell_at m cell) ≡ Some held). put_by_nobody m i effect cell held puts f) (λ (f : at c (Cell_at m cell) ≡ Some held). h cell held f) (later cell held e)
+unowned_put m i c d kind.Multimap effect puts later h = λ cell held e. ⊎_elim (λ (f : at (effect_puts i effect) (Cell_at m cell) ≡ Some held). put_by_nobody m i effect cell held puts f) (λ (f : at c (Cell_at m cell) ≡ Some held). h cell held f) (later cell held e)
+unowned_put m i c d kind.Set effect puts later h = λ cell held e. ⊎_elim (λ (f : at (effect_puts i effect) (Cell_at m cell) ≡ Some held). put_by_nobody m i effect cell held puts f) (λ (f : at c (Cell_at m cell) ≡ Some held). h cell held f) (later cell held e)
+unowned_put m i c d kind.Queue effect puts later h = λ cell held e. ⊎_elim (λ (f : at (effect_puts i effect) (Cell_at m cell) ≡ Some held). put_by_nobody m i effect cell held puts f) (λ (f : at c (Cell_at m cell) ≡ Some held). h cell held f) (later cell held e)
+
+-- the cells show the resource, and have owners only where its kind has
+abbrev Good : ℕ → Cells → Plain → Type 0
+Good m c plain = Shows m c plain × Unowned m c (kind_of plain)
+
+told_same : (c d : Cells) (m : ℕ) (plain : Plain) → ((cell : Cell) → at d (Cell_at m cell) ≡ at c (Cell_at m cell)) → Good m c plain → Good m d plain
+told_same c d m plain same s = (others_shown c d m plain same s.0, unowned_later m c d (kind_of plain) (λ cell held e. inr (sym (same cell) ∙ e)) s.1)
+
+new_shown : (m : ℕ) (c : Cells) (k : Kind) → ((cell : Cell) → at c (Cell_at m cell) ≡ None) → Shows m c (new_plain k)
+new_shown m c kind.Lock none = (refl, λ a b. ap is_some (none (Waiter a b)))
+new_shown m c kind.Group none = (refl, λ j. ap (option_map (λ (h : Held). (h.content, h.owner))) (none (At j)), (refl, λ q. ap is_some (none (Of q))))
+new_shown m c kind.Topic none = (refl, λ q. ap is_some (none (Of q)))
+new_shown m c kind.Value none = ap (option_map (λ (h : Held). h.content)) (none One)
+new_shown m c kind.Counter none = ap (λ o. Rattle.log_model.specs.Shows.number_of (option_map (λ (h : Held). h.content) o)) (none One)
+new_shown m c kind.Map none = (refl, λ key. ap (option_map (λ (h : Held). h.content)) (none (Named key)))
+new_shown m c kind.Multimap none = (refl, λ key word. ap is_some (none (Pair key word)))
+new_shown m c kind.Set none = (refl, λ word. ap is_some (none (Rattle.host_types.specs.declared.entry.Cell.TheVariants.Member word)))
+new_shown m c kind.Queue none = (refl, λ j. ap (option_map (λ (h : Held). h.content)) (none (At j)))
+
+new_told : (m : ℕ) (c : Cells) (k : Kind) → ((cell : Cell) → at c (Cell_at m cell) ≡ None) → Good m c (new_plain k)
+new_told m c k none = (new_shown m c k none, plainly m c (kind_of (new_plain k)) (λ cell held e. absurd (none_some (sym (none cell) ∙ e))))
 
 -- names and their resources
 record Names (last : ℕ) (c : Cells) (ns : List Named_resource) : Type 0 where
   rising : is_sorted nat_cmp (by_instance ns) ≡ true
   distinct : EachName (λ n. found_name n.name ns ≡ Some n) ns
   low : EachName (λ n. n.instance ≤ last) ns
-  shown : EachName (λ n. ShowsTold n.instance c n.plain) ns
+  shown : EachName (λ n. Good n.instance c n.plain) ns
 
 record Whole (s : State) (c : Cells) : Type 0 where
   tracks : Tracks s.sessions s.names c
@@ -250,7 +329,7 @@ shows_state s c w = record {
   names = λ x. w.tracks.by_name x ∙ same_held (named x s);
   rising = w.names.rising;
   distinct = w.names.distinct;
-  shown = w.names.shown;
+  shown = each_name (λ n. Good n.instance c n.plain) (λ n. Shows n.instance c n.plain) (λ n h. h.0) s.names w.names.shown;
 }
 
 some_name : (x y : Named_resource) → Some x ≡ Some y → x ≡ y
@@ -291,11 +370,11 @@ module _ (s : State) (c : Cells) (w : Whole s c) where
     rising = w.names.rising;
     distinct = w.names.distinct;
     low = each_name (λ n. n.instance ≤ s.last) (λ n. n.instance ≤ s.last + 1) (λ n l. omega arith) s.names w.names.low;
-    shown = each_name (λ n. ShowsTold n.instance c n.plain) (λ n. ShowsTold n.instance (after c (s.last + 1) e) n.plain) (λ n h. told_same c (after c (s.last + 1) e) n.instance n.plain (same n.instance) h) s.names w.names.shown;
+    shown = each_name (λ n. Good n.instance c n.plain) (λ n. Good n.instance (after c (s.last + 1) e) n.plain) (λ n h. told_same c (after c (s.last + 1) e) n.instance n.plain (same n.instance) h) s.names w.names.shown;
   }
 
   -- a closing
-  closed_told : (t session : ℕ) (expired : Bool) (n : Named_resource) → ShowsTold n.instance c n.plain → ShowsTold n.instance (after c (s.last + 1) (record { time = t; body = Closed session expired })) (closed_name session n).plain
+  closed_told : (t session : ℕ) (expired : Bool) (n : Named_resource) → Good n.instance c n.plain → Good n.instance (after c (s.last + 1) (record { time = t; body = Closed session expired })) (closed_name session n).plain
   closed_told t session expired n h = go n.plain h
     where
       waits : (m a b : ℕ) (h : Held) → at c (Cell_at m (Waiter a b)) ≡ Some h → h.owner ≡ Some a
@@ -304,47 +383,52 @@ module _ (s : State) (c : Cells) (w : Whole s c) where
       listens : (m q : ℕ) (h : Held) → at c (Cell_at m (Of q)) ≡ Some h → h.owner ≡ Some q
       listens m q h e = w.owners (Cell_at m (Of q)) h e
 
-      go : (plain : Plain) → ShowsTold n.instance c plain → ShowsTold n.instance (after c (s.last + 1) (record { time = t; body = Closed session expired })) (without_session n.name session plain).0
-      go (Lock_is ws) h = closes_shown c n.instance (s.last + 1) t session expired n.name (Lock_is ws) h (waits n.instance)
-      go (Group_is ms ls) h = closes_shown c n.instance (s.last + 1) t session expired n.name (Group_is ms ls) h (listens n.instance)
-      go (Topic_is ls) h = closes_shown c n.instance (s.last + 1) t session expired n.name (Topic_is ls) h (listens n.instance)
-      go (Value_is cur) h = tt
-      go (Counter_is number) h = tt
-      go (Map_is pairs) h = tt
-      go (Multimap_is pairs) h = tt
-      go (Set_is words) h = tt
-      go (Queue_is items) h = tt
+      d : Cells
+      d = after c (s.last + 1) (record { time = t; body = Closed session expired })
+
+      before : (cell : Cell) (held : Held) → at (after c (s.last + 1) (record { time = t; body = Closed session expired })) (Cell_at n.instance cell) ≡ Some held → Change c (s.last + 1) (record { time = t; body = Closed session expired }) (Cell_at n.instance cell) → at c (Cell_at n.instance cell) ≡ Some held
+      before cell held e (Written h f w a) = absurd (none_some w)
+      before cell held e (Taken h w v a) = absurd (none_some (sym a ∙ e))
+      before cell held e (Left u v same) = sym same ∙ e
+
+      still : (k : Kind) → Unowned n.instance c k → Unowned n.instance (after c (s.last + 1) (record { time = t; body = Closed session expired })) k
+      still k h = unowned_later n.instance c (after c (s.last + 1) (record { time = t; body = Closed session expired })) k (λ cell held e. inr (before cell held e (change c (s.last + 1) (record { time = t; body = Closed session expired }) (Cell_at n.instance cell)))) h
+
+      go : (plain : Plain) → Good n.instance c plain → Good n.instance (after c (s.last + 1) (record { time = t; body = Closed session expired })) (without_session n.name session plain).0
+      go (Lock_is ws) h = (closes_shown c n.instance (s.last + 1) t session expired n.name (Lock_is ws) h.0 (waits n.instance), tt)
+      go (Group_is ms ls) h = (closes_shown c n.instance (s.last + 1) t session expired n.name (Group_is ms ls) h.0 (listens n.instance), tt)
+      go (Topic_is ls) h = (closes_shown c n.instance (s.last + 1) t session expired n.name (Topic_is ls) h.0 (listens n.instance), tt)
+      go (Value_is cur) h = (closes_shown c n.instance (s.last + 1) t session expired n.name (Value_is cur) h.0 h.1, still kind.Value h.1)
+      go (Counter_is number) h = (closes_shown c n.instance (s.last + 1) t session expired n.name (Counter_is number) h.0 h.1, still kind.Counter h.1)
+      go (Map_is pairs) h = (closes_shown c n.instance (s.last + 1) t session expired n.name (Map_is pairs) h.0 h.1, still kind.Map h.1)
+      go (Multimap_is pairs) h = (closes_shown c n.instance (s.last + 1) t session expired n.name (Multimap_is pairs) h.0 h.1, still kind.Multimap h.1)
+      go (Set_is words) h = (closes_shown c n.instance (s.last + 1) t session expired n.name (Set_is words) h.0 h.1, still kind.Set h.1)
+      go (Queue_is items) h = (closes_shown c n.instance (s.last + 1) t session expired n.name (Queue_is items) h.0 h.1, still kind.Queue h.1)
 
   names_closed : (t session : ℕ) (expired : Bool) → Names (s.last + 1) (after c (s.last + 1) (record { time = t; body = Closed session expired })) (map (closed_name session) s.names)
   names_closed t session expired = record {
     rising = ap (is_sorted nat_cmp) (same_instances (closed_name session) s.names (each_name (λ n. n.instance ≤ s.last) (λ n. ((closed_name session n).instance ≡ n.instance) × ((closed_name session n).name ≡ n.name) × (kind_of (closed_name session n).plain ≡ kind_of n.plain)) (λ n _. (refl, refl, closing_kind n.name session n.plain)) s.names w.names.low)) ∙ w.names.rising;
     distinct = map_name (λ n. found_name n.name (map (closed_name session) s.names) ≡ Some n) (closed_name session) s.names (each_name (λ n. found_name n.name s.names ≡ Some n) (λ n. found_name n.name (map (closed_name session) s.names) ≡ Some (closed_name session n)) (λ n f. find_map (λ m. is_text n.name m.name) (closed_name session) (λ y. refl) s.names ∙ ap (option_map (closed_name session)) f) s.names w.names.distinct);
     low = map_name (λ n. n.instance ≤ s.last + 1) (closed_name session) s.names (each_name (λ n. n.instance ≤ s.last) (λ n. n.instance ≤ s.last + 1) (λ n l. omega arith) s.names w.names.low);
-    shown = map_name (λ n. ShowsTold n.instance (after c (s.last + 1) (record { time = t; body = Closed session expired })) n.plain) (closed_name session) s.names (each_name (λ n. ShowsTold n.instance c n.plain) (λ n. ShowsTold n.instance (after c (s.last + 1) (record { time = t; body = Closed session expired })) (closed_name session n).plain) (closed_told t session expired) s.names w.names.shown);
+    shown = map_name (λ n. Good n.instance (after c (s.last + 1) (record { time = t; body = Closed session expired })) n.plain) (closed_name session) s.names (each_name (λ n. Good n.instance c n.plain) (λ n. Good n.instance (after c (s.last + 1) (record { time = t; body = Closed session expired })) (closed_name session n).plain) (closed_told t session expired) s.names w.names.shown);
   }
 
   module _ (t session seq : ℕ) where
     -- a row
-    row_told : (n : Named_resource) (o : Op) (effect : Effect) (reply : Reply) (next : Plain) (told : List (ℕ × Event)) → row (record { name = n.name; instance = n.instance; session = session; index = s.last + 1 }) n.plain o ≡ Does effect reply next told → fits_with_owner c effect ≡ true → kind_of next ≡ kind_of n.plain → ShowsTold n.instance c n.plain → ShowsTold n.instance (after c (s.last + 1) (record { time = t; body = Commanded session seq effect reply })) next
-    unfolding tells_kind
-    row_told n o effect reply next told e f same h = go n.plain e same h
+    row_told : (n : Named_resource) (o : Op) (effect : Effect) (reply : Reply) (next : Plain) (told : List (ℕ × Event)) → row (record { name = n.name; instance = n.instance; session = session; index = s.last + 1 }) n.plain o ≡ Does effect reply next told → fits_with_owner c effect ≡ true → kind_of next ≡ kind_of n.plain → Good n.instance c n.plain → Good n.instance (after c (s.last + 1) (record { time = t; body = Commanded session seq effect reply })) next
+    row_told n o effect reply next told e f same h = (
+      rows_shown c n.instance (s.last + 1) t session seq n.name n.plain next o effect reply told h.0 (unfresh n.instance) e f,
+      subst (Unowned n.instance (after c (s.last + 1) (record { time = t; body = Commanded session seq effect reply }))) (sym same)
+          (unowned_put n.instance (s.last + 1) c (after c (s.last + 1) (record { time = t; body = Commanded session seq effect reply })) (kind_of n.plain) effect puts_unowned (λ cell held g. before cell held g (change c (s.last + 1) (record { time = t; body = Commanded session seq effect reply }) (Cell_at n.instance cell))) h.1),
+    )
       where
-        d : Cells
-        d = after c (s.last + 1) (record { time = t; body = Commanded session seq effect reply })
+        puts_unowned : PutsUnowned (kind_of n.plain) effect
+        puts_unowned = subst (RowUnowned (kind_of n.plain)) e (row_unowned (record { name = n.name; instance = n.instance; session = session; index = s.last + 1 }) n.plain o)
 
-        call : Call
-        call = record { name = n.name; instance = n.instance; session = session; index = s.last + 1 }
-
-        go : (plain : Plain) → row (record { name = n.name; instance = n.instance; session = session; index = s.last + 1 }) plain o ≡ Does effect reply next told → kind_of next ≡ kind_of plain → ShowsTold n.instance c plain → ShowsTold n.instance (after c (s.last + 1) (record { time = t; body = Commanded session seq effect reply })) next
-        go (Lock_is ws) e same h = shown_told n.instance (after c (s.last + 1) (record { time = t; body = Commanded session seq effect reply })) next (rows_shown c n.instance (s.last + 1) t session seq n.name (Lock_is ws) next o effect reply told h (unfresh n.instance) e f)
-        go (Group_is ms ls) e same h = shown_told n.instance (after c (s.last + 1) (record { time = t; body = Commanded session seq effect reply })) next (rows_shown c n.instance (s.last + 1) t session seq n.name (Group_is ms ls) next o effect reply told h (unfresh n.instance) e f)
-        go (Topic_is ls) e same h = shown_told n.instance (after c (s.last + 1) (record { time = t; body = Commanded session seq effect reply })) next (rows_shown c n.instance (s.last + 1) t session seq n.name (Topic_is ls) next o effect reply told h (unfresh n.instance) e f)
-        go (Value_is cur) e same h = untold n.instance (after c (s.last + 1) (record { time = t; body = Commanded session seq effect reply })) next (ap tells_kind same)
-        go (Counter_is number) e same h = untold n.instance (after c (s.last + 1) (record { time = t; body = Commanded session seq effect reply })) next (ap tells_kind same)
-        go (Map_is pairs) e same h = untold n.instance (after c (s.last + 1) (record { time = t; body = Commanded session seq effect reply })) next (ap tells_kind same)
-        go (Multimap_is pairs) e same h = untold n.instance (after c (s.last + 1) (record { time = t; body = Commanded session seq effect reply })) next (ap tells_kind same)
-        go (Set_is words) e same h = untold n.instance (after c (s.last + 1) (record { time = t; body = Commanded session seq effect reply })) next (ap tells_kind same)
-        go (Queue_is items) e same h = untold n.instance (after c (s.last + 1) (record { time = t; body = Commanded session seq effect reply })) next (ap tells_kind same)
+        before : (cell : Cell) (held : Held) → at (after c (s.last + 1) (record { time = t; body = Commanded session seq effect reply })) (Cell_at n.instance cell) ≡ Some held → Change c (s.last + 1) (record { time = t; body = Commanded session seq effect reply }) (Cell_at n.instance cell) → (at (effect_puts (s.last + 1) effect) (Cell_at n.instance cell) ≡ Some held) ⊎ (at c (Cell_at n.instance cell) ≡ Some held)
+        before cell held g (Written z fit w a) = inl (w ∙ sym a ∙ g)
+        before cell held g (Taken z w v a) = absurd (none_some (sym a ∙ g))
+        before cell held g (Left u v same) = inr (sym same ∙ g)
 
     -- another instance than the effect's
     kept_other : (m : ℕ) (effect : Effect) (reply : Reply) → OnOne m effect → (n : ℕ) → (n ≡ m → ⊥) → (cell : Cell) → at (after c (s.last + 1) (record { time = t; body = Commanded session seq effect reply })) (Cell_at n cell) ≡ at c (Cell_at n cell)
@@ -356,7 +440,7 @@ module _ (s : State) (c : Cells) (w : Whole s c) where
       rising = ap (is_sorted nat_cmp) (same_instances g s.names (each_name (λ m. found_name m.name s.names ≡ Some m) (λ m. ((g m).instance ≡ m.instance) × ((g m).name ≡ m.name) × (kind_of (g m).plain ≡ kind_of m.plain)) parts s.names w.names.distinct)) ∙ w.names.rising;
       distinct = map_name (λ m. found_name m.name (map g s.names) ≡ Some m) g s.names (each_name (λ m. found_name m.name s.names ≡ Some m) (λ m. found_name (g m).name (map g s.names) ≡ Some (g m)) (λ m h. ap (λ y. found_name y (map g s.names)) (parts m h).1 ∙ find_map (λ z. is_text m.name z.name) g (λ y. ap (is_text m.name) (named_so y)) s.names ∙ ap (option_map g) h) s.names w.names.distinct);
       low = map_name (λ m. m.instance ≤ s.last + 1) g s.names (each_name (λ m. (found_name m.name s.names ≡ Some m) × (m.instance ≤ s.last)) (λ m. (g m).instance ≤ s.last + 1) (λ m h. (let l = h.1 in let e = (parts m h.0).0 in omega arith)) s.names (both_name (λ m. found_name m.name s.names ≡ Some m) (λ m. m.instance ≤ s.last) s.names w.names.distinct w.names.low));
-      shown = map_name (λ m. ShowsTold m.instance d m.plain) g s.names (each_name (λ m. (found_name m.name s.names ≡ Some m) × ShowsTold m.instance c m.plain) (λ m. ShowsTold (g m).instance d (g m).plain) (λ m h. told_at m h.0 h.1) s.names (both_name (λ m. found_name m.name s.names ≡ Some m) (λ m. ShowsTold m.instance c m.plain) s.names w.names.distinct w.names.shown));
+      shown = map_name (λ m. Good m.instance d m.plain) g s.names (each_name (λ m. (found_name m.name s.names ≡ Some m) × Good m.instance c m.plain) (λ m. Good (g m).instance d (g m).plain) (λ m h. told_at m h.0 h.1) s.names (both_name (λ m. found_name m.name s.names ≡ Some m) (λ m. Good m.instance c m.plain) s.names w.names.distinct w.names.shown));
     }
       where
         d : Cells
@@ -389,11 +473,11 @@ module _ (s : State) (c : Cells) (w : Whole s c) where
           | false ↦ λ u. (refl, refl, refl)
         ] refl
 
-        told_at : (m : Named_resource) → found_name m.name s.names ≡ Some m → ShowsTold m.instance c m.plain → ShowsTold (g m).instance d (g m).plain
-        told_at m h shown = elim (is_text n.name m.name) as (λ b. is_text n.name m.name ≡ b → ShowsTold (cond b (record { name = m.name; instance = m.instance; plain = next }) m).instance d (cond b (record { name = m.name; instance = m.instance; plain = next }) m).plain) [
+        told_at : (m : Named_resource) → found_name m.name s.names ≡ Some m → Good m.instance c m.plain → Good (g m).instance d (g m).plain
+        told_at m h shown = elim (is_text n.name m.name) as (λ b. is_text n.name m.name ≡ b → Good (cond b (record { name = m.name; instance = m.instance; plain = next }) m).instance d (cond b (record { name = m.name; instance = m.instance; plain = next }) m).plain) [
           | true ↦ λ u.
               let same : n ≡ m = same_one m u h in
-              subst (λ (z : Named_resource). ShowsTold z.instance d next) same (row_told n o effect reply next told e fit facts.1 (subst (λ (z : Named_resource). ShowsTold z.instance c z.plain) (sym same) shown))
+              subst (λ (z : Named_resource). Good z.instance d next) same (row_told n o effect reply next told e fit facts.1 (subst (λ (z : Named_resource). Good z.instance c z.plain) (sym same) shown))
           | false ↦ λ u.
               told_same c d m.instance m.plain (kept_other n.instance effect reply on m.instance (λ at_one. clash (is_text n.name m.name) (ap (is_text n.name) (apart m.name n.name m n h n_found at_one) ∙ text_itself n.name) u)) shown
         ] refl
@@ -403,7 +487,7 @@ module _ (s : State) (c : Cells) (w : Whole s c) where
       rising = ap (is_sorted nat_cmp) (filtered s.names) ∙ sorted_where nat_cmp (λ (e : ℕ × (List ℕ × Option Kind)). not (is_text n.name e.1.0)) (by_instance s.names) w.names.rising;
       distinct = filter_name (λ m. found_name m.name (filter left s.names) ≡ Some m) left s.names (each_name (λ m. found_name m.name s.names ≡ Some m) (λ m. left m ≡ true → found_name m.name (filter left s.names) ≡ Some m) (λ m h k. find_beside (λ y. is_text m.name y.name) (λ y. is_text n.name y.name) (λ y u. false_from_ne_true (is_text n.name y.name) (λ v. clash (is_text n.name m.name) (ap (is_text n.name) (same_text m.name y.name u) ∙ v) (other m k))) s.names ∙ h) s.names w.names.distinct);
       low = filter_name (λ m. m.instance ≤ s.last + 1) left s.names (each_name (λ m. m.instance ≤ s.last) (λ m. left m ≡ true → m.instance ≤ s.last + 1) (λ m l _. omega arith) s.names w.names.low);
-      shown = filter_name (λ m. ShowsTold m.instance d m.plain) left s.names (each_name (λ m. (found_name m.name s.names ≡ Some m) × ShowsTold m.instance c m.plain) (λ m. left m ≡ true → ShowsTold m.instance d m.plain) (λ m h k. told_same c d m.instance m.plain (kept_other n.instance (Delete n.name n.instance) reply refl m.instance (λ at_one. clash (is_text n.name m.name) (ap (is_text n.name) (apart m.name n.name m n h.0 n_found at_one) ∙ text_itself n.name) (other m k))) h.1) s.names (both_name (λ m. found_name m.name s.names ≡ Some m) (λ m. ShowsTold m.instance c m.plain) s.names w.names.distinct w.names.shown));
+      shown = filter_name (λ m. Good m.instance d m.plain) left s.names (each_name (λ m. (found_name m.name s.names ≡ Some m) × Good m.instance c m.plain) (λ m. left m ≡ true → Good m.instance d m.plain) (λ m h k. told_same c d m.instance m.plain (kept_other n.instance (Delete n.name n.instance) reply refl m.instance (λ at_one. clash (is_text n.name m.name) (ap (is_text n.name) (apart m.name n.name m n h.0 n_found at_one) ∙ text_itself n.name) (other m k))) h.1) s.names (both_name (λ m. found_name m.name s.names ≡ Some m) (λ m. Good m.instance c m.plain) s.names w.names.distinct w.names.shown));
     }
       where
         d : Cells
@@ -430,7 +514,7 @@ module _ (s : State) (c : Cells) (w : Whole s c) where
       rising = ap (is_sorted nat_cmp) (pushed s.names) ∙ sorted_push (s.last + 1) (entry_kind name (Some (kind_of (new_plain k)))) (by_instance s.names) w.names.rising (λ j y f. (let q = name_found (λ n. n.instance ≤ s.last) s.names w.names.low j y f in let l = q.1 in let e = q.2 in omega arith));
       distinct = push_name (λ m. found_name m.name (s.names ++ new ∷ []) ≡ Some m) s.names new (each_name (λ m. found_name m.name s.names ≡ Some m) (λ m. found_name m.name (s.names ++ new ∷ []) ≡ Some m) (λ m h. stays m.name m s.names h) s.names w.names.distinct) (find_push (λ m. is_text name m.name) new s.names out ∙ ap (λ b. cond b (Some new) None) (text_itself name));
       low = push_name (λ m. m.instance ≤ s.last + 1) s.names new (each_name (λ m. m.instance ≤ s.last) (λ m. m.instance ≤ s.last + 1) (λ m l. omega arith) s.names w.names.low) (omega arith);
-      shown = push_name (λ m. ShowsTold m.instance d m.plain) s.names new (each_name (λ m. ShowsTold m.instance c m.plain) (λ m. ShowsTold m.instance d m.plain) (λ m h. told_same c d m.instance m.plain (λ cell. same m.instance cell) h) s.names w.names.shown) (new_told (s.last + 1) d k (λ cell. same (s.last + 1) cell ∙ fresh cell (at c (Cell_at (s.last + 1) cell)) refl));
+      shown = push_name (λ m. Good m.instance d m.plain) s.names new (each_name (λ m. Good m.instance c m.plain) (λ m. Good m.instance d m.plain) (λ m h. told_same c d m.instance m.plain (λ cell. same m.instance cell) h) s.names w.names.shown) (new_told (s.last + 1) d k (λ cell. same (s.last + 1) cell ∙ fresh cell (at c (Cell_at (s.last + 1) cell)) refl));
     }
       where
         d : Cells

@@ -24,7 +24,8 @@ use Rattle.log_model.specs.Commands.{Decided, Declined, row_outcome, outcome_the
 use Rattle.log_model.specs.Stored.{decided_body, asked_body, entry_of}
 use Rattle.log_model.specs.Batches.{told, told_ask, told_outcome}
 use Rattle.log_model.specs.Step.{told_close, step}
-use Rattle.log_model.specs.Telling.{gather, named_pick, plain_in, effect_tells, effect_instance, tells_there, tells_at, told_by_cells, name_held, by_instance, EachName, ShowsTold, ShowsState, ShownFrom, CellsShow}
+use Rattle.log_model.specs.Shows.{Shows}
+use Rattle.log_model.specs.Telling.{gather, named_pick, plain_in, effect_tells, effect_instance, tells_there, tells_at, told_by_cells, name_held, by_instance, EachName, ShowsState, ShownFrom, CellsShow}
 use Rattle.log_model.specs.ReplayLaws.{TellsFrom, TellsAsPlain}
 use Rattle.log_model.proofs.Lookups.{T_from, tied_same, found_from_any}
 use Rattle.log_model.proofs.Tracks.{find_passes, found_name, same_text}
@@ -104,7 +105,7 @@ row_tells c (Topic_is listeners) op = topic_tells c listeners op
 -- the resource as it stands in the cells tells the same
 
 module _ (m : ℕ) (c : Cells) (s : T (is_sorted place_cmp c)) where
-  read_tells : (i : ℕ) (name : List ℕ) (plain : Plain) (effect : Effect) → ShowsTold m c plain → effect_tells i name (plain_in m (Some (kind_of plain)) c) effect ≡ effect_tells i name plain effect
+  read_tells : (i : ℕ) (name : List ℕ) (plain : Plain) (effect : Effect) → Shows m c plain → effect_tells i name (plain_in m (Some (kind_of plain)) c) effect ≡ effect_tells i name plain effect
   read_tells i name (Lock_is ws) effect shown = ap (λ ws. effect_tells i name (Lock_is ws) effect) (waiters_are m c ws s shown.0 shown.1)
   read_tells i name (Group_is ms ls) effect shown = (λ j. effect_tells i name (Group_is (members_are m c ms s shown.0 shown.1 j) (listeners_are m c ls s shown.2 j)) effect)
   read_tells i name (Topic_is ls) effect shown = ap (λ ls. effect_tells i name (Topic_is ls) effect) (listeners_are m c ls s shown)
@@ -115,7 +116,7 @@ module _ (m : ℕ) (c : Cells) (s : T (is_sorted place_cmp c)) where
   read_tells i name (Set_is words) effect shown = refl
   read_tells i name (Queue_is items) effect shown = refl
 
-  read_closes : (name : List ℕ) (session : ℕ) (plain : Plain) → ShowsTold m c plain → (without_session name session (plain_in m (Some (kind_of plain)) c)).1 ≡ (without_session name session plain).1
+  read_closes : (name : List ℕ) (session : ℕ) (plain : Plain) → Shows m c plain → (without_session name session (plain_in m (Some (kind_of plain)) c)).1 ≡ (without_session name session plain).1
   read_closes name session (Lock_is ws) shown = ap (λ ws. (without_session name session (Lock_is ws)).1) (waiters_are m c ws s shown.0 shown.1)
   read_closes name session (Group_is ms ls) shown = (λ j. (without_session name session (Group_is (members_are m c ms s shown.0 shown.1 j) (listeners_are m c ls s shown.2 j))).1)
   read_closes name session (Topic_is ls) shown = refl
@@ -189,7 +190,7 @@ module _ (c : Cells) (s : State) (shows : ShowsState c s) where
           (Name_at q.0.name, held_name q.0.instance (kind_of q.0.plain), shows.names q.0.name ∙ ap name_held q.1, (λ j. picked_name (sym q.2 j) (q.3 j).0 (q.3 j).1))
 
   -- a closing
-  closes_from : (session : ℕ) (ns : List Named_resource) → EachName (λ n. ShowsTold n.instance c n.plain) ns → flat_map (λ (n : ℕ × (List ℕ × Option Kind)). (without_session n.1.0 session (plain_in n.0 n.1.1 c)).1) (by_instance ns) ≡ flat_map (λ n. (without_session n.name session n.plain).1) ns
+  closes_from : (session : ℕ) (ns : List Named_resource) → EachName (λ n. Shows n.instance c n.plain) ns → flat_map (λ (n : ℕ × (List ℕ × Option Kind)). (without_session n.1.0 session (plain_in n.0 n.1.1 c)).1) (by_instance ns) ≡ flat_map (λ n. (without_session n.name session n.plain).1) ns
   closes_from session [] h = refl
   closes_from session (n ∷ ns) h = (λ j. read_closes n.instance c (T_from _ shows.sorted) n.name session n.plain h.0 j ++ closes_from session ns h.1 j)
 
@@ -217,7 +218,7 @@ module _ (c : Cells) (s : State) (shows : ShowsState c s) where
           let there : find nat_cmp m (gather named_pick c) ≡ Some (entry_kind n.name (Some (kind_of n.plain))) = (λ j. find nat_cmp (a j) (names_are j)) ∙ found_at x n f in
           ap (tells_there c (s.last + 1) m effect) there
           ∙ (λ j. effect_tells (s.last + 1) n.name (plain_in (a j) (Some (kind_of n.plain)) c) effect)
-          ∙ read_tells n.instance c (T_from _ shows.sorted) (s.last + 1) n.name n.plain effect (shown_found (λ n. ShowsTold n.instance c n.plain) x s.names n shows.shown f)
+          ∙ read_tells n.instance c (T_from _ shows.sorted) (s.last + 1) n.name n.plain effect (shown_found (λ n. Shows n.instance c n.plain) x s.names n shows.shown f)
           ∙ e
   row_told x n session seq f (Out_of_range cur) h = refl
   row_told x n session seq f Of_no_kind h = refl

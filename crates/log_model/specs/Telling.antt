@@ -96,8 +96,6 @@ told_by_cells c i (Command session seq effect reply) = tells_at c i effect (effe
 told_by_cells c i (Close session expired) = flat_map (λ n. (without_session n.1.0 session (plain_in n.0 n.1.1 c)).1) (gather named_pick c)
 told_by_cells c i _ = []
 
--- the cells show the names and the resources of the state
-
 abbrev pub name_held : Option Named_resource → Option Held
 name_held None = None
 name_held (Some n) = Some (named n.instance (kind_of n.plain))
@@ -109,19 +107,13 @@ abbrev pub EachName : (Named_resource → Type 0) → List Named_resource → Ty
 EachName P [] = Unit {0}
 EachName P (n ∷ names) = P n × EachName P names
 
--- what tells events is shown
-abbrev pub ShowsTold : ℕ → Cells → Plain → Type 0
-ShowsTold m c (Lock_is waiters) = Shows m c (Lock_is waiters)
-ShowsTold m c (Group_is members listeners) = Shows m c (Group_is members listeners)
-ShowsTold m c (Topic_is listeners) = Shows m c (Topic_is listeners)
-ShowsTold m c _ = Unit {0}
-
+-- the cells are in order, and show the names, by rising instance and each once, and the resource of each
 pub record ShowsState (c : Cells) (s : State) : Type 0 where
   pub sorted : IsTrue (is_sorted place_cmp c)
   pub names : (x : List ℕ) → at c (Name_at x) ≡ name_held (named_in x s)
   pub rising : IsTrue (is_sorted nat_cmp (by_instance s.names))
   pub distinct : EachName (λ n. named_in n.name s ≡ Some n) s.names
-  pub shown : EachName (λ n. ShowsTold n.instance c n.plain) s.names
+  pub shown : EachName (λ n. Shows n.instance c n.plain) s.names
 
 -- at each moment of a log
 abbrev pub ShownFrom : State → Cells → List Item → Type 0
