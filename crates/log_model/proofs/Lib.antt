@@ -24,6 +24,7 @@ pub mod OneSession
 pub mod Parted
 pub mod Parts
 pub mod Places
+pub mod PlainMachines
 pub mod QuietGreatest
 pub mod ReadOff
 pub mod Replaying

@@ -281,21 +281,21 @@ new_told : (m : ℕ) (c : Cells) (k : Kind) → ((cell : Cell) → at c (Cell_at
 new_told m c k none = (new_shown m c k none, plainly m c (kind_of (new_plain k)) (λ cell held e. absurd (none_some (sym (none cell) ∙ e))))
 
 -- names and their resources
-record Names (last : ℕ) (c : Cells) (ns : List Named_resource) : Type 0 where
-  rising : is_sorted nat_cmp (by_instance ns) ≡ true
-  distinct : EachName (λ n. found_name n.name ns ≡ Some n) ns
-  low : EachName (λ n. n.instance ≤ last) ns
-  shown : EachName (λ n. Good n.instance c n.plain) ns
+pub record Names (last : ℕ) (c : Cells) (ns : List Named_resource) : Type 0 where
+  pub rising : is_sorted nat_cmp (by_instance ns) ≡ true
+  pub distinct : EachName (λ n. found_name n.name ns ≡ Some n) ns
+  pub low : EachName (λ n. n.instance ≤ last) ns
+  pub shown : EachName (λ n. Good n.instance c n.plain) ns
 
-record Whole (s : State) (c : Cells) : Type 0 where
-  tracks : Tracks s.sessions s.names c
-  sorted : T (is_sorted place_cmp c)
-  below : (p : Place) (h : Held) → at c p ≡ Some h → h.index ≤ s.last
-  owners : (p : Place) (h : Held) → at c p ≡ Some h → OwnerRule h.index p h.owner
-  instances : (m : ℕ) (cell : Cell) (h : Held) → at c (Cell_at m cell) ≡ Some h → m ≤ s.last
-  names : Names s.last c s.names
+pub record Whole (s : State) (c : Cells) : Type 0 where
+  pub tracks : Tracks s.sessions s.names c
+  pub sorted : T (is_sorted place_cmp c)
+  pub below : (p : Place) (h : Held) → at c p ≡ Some h → h.index ≤ s.last
+  pub owners : (p : Place) (h : Held) → at c p ≡ Some h → OwnerRule h.index p h.owner
+  pub instances : (m : ℕ) (cell : Cell) (h : Held) → at c (Cell_at m cell) ≡ Some h → m ≤ s.last
+  pub names : Names s.last c s.names
 
-each_name : (P Q : Named_resource → Type 0) → ((n : Named_resource) → P n → Q n) → (ns : List Named_resource) → EachName P ns → EachName Q ns
+pub each_name : (P Q : Named_resource → Type 0) → ((n : Named_resource) → P n → Q n) → (ns : List Named_resource) → EachName P ns → EachName Q ns
 each_name P Q f [] h = tt
 each_name P Q f (n ∷ ns) h = (f n h.0, each_name P Q f ns h.1)
 
@@ -323,7 +323,7 @@ same_held : (o : Option Named_resource) → held_of o ≡ name_held o
 same_held None = refl
 same_held (Some n) = refl
 
-shows_state : (s : State) (c : Cells) → Whole s c → ShowsState c s
+pub shows_state : (s : State) (c : Cells) → Whole s c → ShowsState c s
 shows_state s c w = record {
   sorted = from_T _ w.sorted;
   names = λ x. w.tracks.by_name x ∙ same_held (named x s);
@@ -593,7 +593,7 @@ module _ (s : State) (c : Cells) (w : Whole s c) where
           subst (Names (s.last + 1) (after c (s.last + 1) (record { time = t; body = decided_body session seq (outcome s name session op) }))) (sym (commanded_names t session seq (outcome s name session op)))
           (names_command t session seq name op (found_name name s.names) refl fit)
 
-  whole_next : (item : Item) → is_admitted s item ≡ true → Whole (step s item) (after c (s.last + 1) (entry_of s item))
+  pub whole_next : (item : Item) → is_admitted s item ≡ true → Whole (step s item) (after c (s.last + 1) (entry_of s item))
   whole_next item ok = record {
     tracks = k.tracks;
     sorted = sorted-after c (s.last + 1) e w.sorted;
@@ -634,15 +634,18 @@ shown_from s c (item ∷ items) log w =
     let p = and_parts (is_admitted s item) (is_log_from (step s item) items) log in
     (shows_state s c w, shown_from (step s item) (after c (s.last + 1) (entry_of s item)) items p.1 (whole_next s c w item p.0))
 
-pub cells_show : CellsShow
-cells_show items log = shown_from nothing_yet [] items log (record {
+pub whole_nothing : Whole nothing_yet []
+whole_nothing = record {
   tracks = record { by_name = λ x. refl; by_session = λ id. refl };
   sorted = tt;
   below = λ p h g. absurd (none_some g);
   owners = λ p h g. absurd (none_some g);
   instances = λ m cell h g. absurd (none_some g);
   names = record { rising = refl; distinct = tt; low = tt; shown = tt };
-})
+}
+
+pub cells_show : CellsShow
+cells_show items log = shown_from nothing_yet [] items log whole_nothing
 
 pub cells_tell : CellsTell
 cells_tell = telling_law cells_show

@@ -47,7 +47,7 @@ step_sessions s (Offered o) = go o.ask
     go Tick = refl
     go (Command session seq name op) = commands session seq (outcome s name session op)
 
-now_step : (s : State) (item : Item) → (step s item).now ≡ (entry_of s item).time
+pub now_step : (s : State) (item : Item) → (step s item).now ≡ (entry_of s item).time
 now_step s (Expired time session) = refl
 now_step s (Offered o) = go o.ask
   where
@@ -61,7 +61,7 @@ now_step s (Offered o) = go o.ask
     go _ = refl
 
 -- the fold and its cells, as a replay shows them
-abbrev seen : State → Cells → Hosted
+abbrev pub seen : State → Cells → Hosted
 seen s c = record { last = s.last; now = s.now; sessions = s.sessions; cells = c }
 
 module _ (telling : Telling) where

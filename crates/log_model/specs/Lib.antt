@@ -11,6 +11,7 @@ pub mod Log
 pub mod Machines
 pub mod Parts
 pub mod Plain
+pub mod PlainMachine
 pub mod Quiet
 pub mod Released
 pub mod Replay

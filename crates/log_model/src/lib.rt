@@ -6,6 +6,7 @@ ghost use Rattle.log_model.specs.Cleaning.{AppendKeeps, CentralLaw, CentralLawOf
 ghost use Rattle.log_model.specs.Kept.{MajorKeeps, MinorKeeps};
 ghost use Rattle.log_model.specs.Machines.{AdmittedStaysLive, CentralLawOfMachines, HostedLogGrows, HostedLogIsWhole, HostedQuietGrows, LogsAreLive};
 ghost use Rattle.log_model.specs.Parts.{AlivesFollow, MachinePartFollows, PlacesAreParted};
+ghost use Rattle.log_model.specs.PlainMachine.{PlainMachinesArePlain};
 ghost use Rattle.log_model.specs.Quiet.{QuietGrows, QuietIsGreatest};
 ghost use Rattle.log_model.specs.Released.{MarksLaw};
 ghost use Rattle.log_model.specs.ReplayLaws.{AdmittedIsReplayed, ReplayGivesFold, ReplayGivesHostedFold, ReplayLaw};
@@ -211,7 +212,7 @@ pub fn others_show()
     ensures { OthersShow }
 {}
 
-/// At each moment of a log its cells show the names, and the resources that tell events.
+/// At each moment of a log its cells show the names and all resources of the plain state.
 pub fn cells_show()
     ensures { CellsShow }
 {}
@@ -224,4 +225,9 @@ pub fn cells_tell()
 /// A replay of a cleaned log gives the fold: cells, sessions, kept replies and kept batches, last index and time.
 pub fn replay_of_logs()
     ensures { ReplayOfLogs }
+{}
+
+/// A host over a machine that decides and tells as the rows do takes what the plain state takes, and is as the plain state.
+pub fn plain_machines_are_plain()
+    ensures { PlainMachinesArePlain }
 {}
