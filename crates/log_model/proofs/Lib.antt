@@ -32,6 +32,7 @@ pub mod Rising
 pub mod RowEffects
 pub mod Run
 pub mod SessionFields
+pub mod SessionPlaces
 pub mod Sets
 pub mod Shown
 pub mod ShownCloses

@@ -1,5 +1,5 @@
 -- The two parts of a host's cells: the machine's, and the places of sessions; and how an entry changes each.
-use Rattle.std.specs.Prelude.{◌≡◌, ℕ, ◌+◌, Bool, true, cond, not, ◌&&◌, ◌==◌, Option, Some, None, IsTrue}
+use Rattle.std.specs.Prelude.{◌≡◌, ℕ, ◌+◌, Bool, true, cond, not, ◌&&◌, ◌==◌, List, [], ◌∷◌, map, Option, Some, None, IsTrue}
 use Rattle.std.specs.Option.{option_map}
 use Rattle.std.specs.FinMap.Entries.{is_sorted, where_key}
 use Rattle.host_types.specs.declared.entry.Body.{Body}
@@ -53,3 +53,19 @@ session_cells cells = where_key place_cmp (λ place. not (is_machine_place place
 -- an index holds its places in the two parts
 abbrev pub PlacesAreParted : Type 0
 PlacesAreParted = (cells : Cells) (index : ℕ) → places_of cells index ≡ places_of (machine_cells cells) index + places_of (session_cells cells) index
+
+-- each open session with the entry that is held as its last keep-alive
+abbrev pub commits_of : Hosted → List (ℕ × Option ℕ)
+commits_of s = map (λ x. (x.id, alive_index s.cells x.id)) s.sessions
+
+abbrev pub alive_places : Option ℕ → ℕ → ℕ
+alive_places None index = 0
+alive_places (Some alive) index = cond (alive == index) 1 0
+
+-- at how many places of these sessions an entry is held
+abbrev pub commit_places : List (ℕ × Option ℕ) → ℕ → ℕ
+commit_places [] index = 0
+commit_places (x ∷ commits) index = cond (x.0 == index) 1 0 + alive_places x.1 index + commit_places commits index
+
+abbrev pub SessionPlacesAre : Type 0
+SessionPlacesAre = (s : Hosted) (index : ℕ) → IsSound s → places_of (session_cells s.cells) index ≡ commit_places (commits_of s) index

@@ -5,7 +5,7 @@
 ghost use Rattle.log_model.specs.Cleaning.{AppendKeeps, CentralLaw, CentralLawOfLogs, FreshIsCleaned, ReleasedGrows};
 ghost use Rattle.log_model.specs.Kept.{MajorKeeps, MinorKeeps};
 ghost use Rattle.log_model.specs.Machines.{AdmittedStaysLive, CentralLawOfMachines, HostedLogGrows, HostedLogIsWhole, HostedQuietGrows, LogsAreLive};
-ghost use Rattle.log_model.specs.Parts.{AlivesFollow, MachinePartFollows, PlacesAreParted};
+ghost use Rattle.log_model.specs.Parts.{AlivesFollow, MachinePartFollows, PlacesAreParted, SessionPlacesAre};
 ghost use Rattle.log_model.specs.PlainMachine.{PlainMachinesArePlain};
 ghost use Rattle.log_model.specs.Quiet.{QuietGrows, QuietIsGreatest};
 ghost use Rattle.log_model.specs.Released.{MarksLaw};
@@ -230,4 +230,9 @@ pub fn replay_of_logs()
 /// A host over a machine that decides and tells as the rows do takes what the plain state takes, and is as the plain state.
 pub fn plain_machines_are_plain()
     ensures { PlainMachinesArePlain }
+{}
+
+/// At the places of sessions each open session's register entry is held, and its last keep-alive if there was one.
+pub fn session_places_are()
+    ensures { SessionPlacesAre }
 {}
