@@ -1,9 +1,7 @@
 -- What the rows store fits to the kind of their resource.
-use Rattle.std.proofs.Common.{◌≡◌, ◌⊎◌, ℕ, ℤ, Bool, true, false, List, Option, Some, None, refl, inl, inr}
+use Rattle.std.proofs.Common.{◌≡◌, ℕ, ℤ, Bool, true, false, List, Option, Some, None, refl, inl, inr}
 use Rattle.host_types.specs.declared.entry.Kind.{Kind}
 use Rattle.host_types.specs.declared.entry.Kind.TheVariants as kind
-use Rattle.host_types.specs.declared.entry.Cell.{Cell}
-use Rattle.host_types.specs.declared.entry.Cell.TheVariants.{At, Waiter, Of}
 use Rattle.host_types.specs.declared.entry.Effect.{Effect}
 use Rattle.host_types.specs.declared.entry.Effect.TheVariants.{Create, Delete, Put}
 use Rattle.host_types.specs.declared.entry.Op.{Op}
@@ -11,14 +9,8 @@ use Rattle.host_types.specs.declared.entry.Op.TheVariants.{Set, Reset, Put as Pu
 use Rattle.host_types.specs.declared.entry.Reply.{Reply}
 use Rattle.host_types.specs.Cells.{is_of_kind}
 use Rattle.log_model.specs.Plain.{Member as Group_member, Plain, Value_is, Counter_is, Map_is, Multimap_is, Set_is, Queue_is, Lock_is, Group_is, Topic_is, kind_of}
+use Rattle.log_model.specs.LawfulRows.{OwnerSuits}
 use Rattle.log_model.specs.Rows.{Row, Does, Call, either, row, value_row, counter_row, map_row, multimap_row, set_row, takes_out, queue_row, lock_row, group_row, topic_row, without_session}
-
--- the owner of a cell is the one that its place has
-abbrev pub OwnerSuits : ℕ → ℕ → Cell → Option ℕ → Type 0
-OwnerSuits index session (At i) owner = (i ≡ index) × ((owner ≡ None) ⊎ (owner ≡ Some session))
-OwnerSuits index session (Waiter other id) owner = (other ≡ session) × (owner ≡ Some session)
-OwnerSuits index session (Of other) owner = (other ≡ session) × (owner ≡ Some session)
-OwnerSuits index session _ owner = owner ≡ None
 
 abbrev pub Suits : Call → Kind → Effect → Type 0
 Suits c kind (Put instance cell content owner) = (instance ≡ c.instance) × (is_of_kind kind cell content ≡ true) × OwnerSuits c.index c.session cell owner

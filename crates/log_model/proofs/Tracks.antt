@@ -34,7 +34,8 @@ use Rattle.log_model.proofs.Places.{place_total, exact_places, exact_texts}
 use Rattle.log_model.proofs.Lookups.{tied_true, tied_same, any_from_found}
 use Rattle.log_model.proofs.Changes.{Change, Written, Taken, Left, change}
 use Rattle.log_model.proofs.Entries.{single, covers_puts, effect_register, effect_covers_register}
-use Rattle.log_model.proofs.RowEffects.{OwnerSuits, Suits, RowSuits, row_suits, closing_kind}
+use Rattle.log_model.specs.LawfulRows.{OwnerSuits}
+use Rattle.log_model.proofs.RowEffects.{Suits, RowSuits, row_suits, closing_kind}
 
 module _ {A : Type 0} (p : A → Bool) where
   pub find_passes : (xs : List A) (x : A) → find p xs ≡ Some x → p x ≡ true

@@ -3,9 +3,11 @@ pub mod Batches
 pub mod Cells
 pub mod Cleaning
 pub mod Commands
+pub mod Deciding
 pub mod Fitting
 pub mod Hosted
 pub mod Kept
+pub mod LawfulRows
 pub mod Layout
 pub mod Log
 pub mod Machines
