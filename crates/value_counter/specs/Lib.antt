@@ -1,0 +1,5 @@
+pub mod Changes
+pub mod Holding
+pub mod Laws
+pub mod One
+pub mod Reading
