@@ -2,7 +2,7 @@
 use Rattle.std.specs.Prelude.{◌≡◌, ◌≢◌, ◌⊎◌, ℕ, Bool, true, false, List, Some, None, Result, IsTrue}
 use Rattle.std.specs.FinMap.Entries.{is_sorted}
 use Rattle.host_types.specs.Cells.{Place, Held, Cells, place_cmp, at, effect_puts, effect_fits, instance_fits, deletes_standing}
-use Rattle.host_types.specs.Ranges.{IsIndex, EffectFits, IsEffectInRange, ReplyFits, IsReplyInRange, OpFits, AreCellsInRange}
+use Rattle.host_types.specs.Ranges.{IsIndex, IsKey, EffectFits, IsEffectInRange, ReplyFits, IsReplyInRange, OpFits, AreCellsInRange}
 use Rattle.host_types.specs.declared.entry.Kind.{Kind}
 use Rattle.host_types.specs.declared.entry.Op.{Op}
 use Rattle.host_types.specs.declared.entry.Op.TheVariants.{Size, Get, GetOf, Count, Has, Peek, Holder, Members, Leader}
@@ -79,6 +79,7 @@ ResourceIsLawful kind d =
 abbrev pub MachineIsLawful : MachineDecision → Type 0
 MachineIsLawful d =
     (cells : Cells) (name : List ℕ) (op : Op) (session index : ℕ) (effect : Effect) (reply : Reply)
+    → IsKey name
     → IsAsked cells op session index
     → d.resolve cells name op session index ≡ Decides effect reply
     → IsLawful (effect_fits cells effect) cells session index effect reply

@@ -3,7 +3,7 @@ use Rattle.std.proofs.Common.{◌≡◌, ℕ, suc, ◌+◌, ◌<◌, ◌≤◌, 
 use Rattle.std.proofs.lemmas.Bool.{and_from, and_parts}
 use Rattle.std.specs.List.{find, enumerate_from, AllByRecursion}
 use Rattle.std.specs.FinMap.{is_sorted}
-use Rattle.host_types.specs.Limits.{index_limit}
+use Rattle.host_types.specs.Limits.{index_limit, last_limit}
 use Rattle.host_types.specs.declared.entry.Ask.{Ask}
 use Rattle.host_types.specs.declared.entry.Ask.TheVariants.{Register, Alive, Unregister, Tick, Command}
 use Rattle.host_types.specs.declared.entry.Body.{Body}
@@ -97,15 +97,15 @@ expiring s time session ok =
     due : (o : Option Session) → find (is_due time) s.sessions ≡ o → is_expiry_of session (expires_due s.last (elim o as (λ _. Option ℕ) [ None ↦ None | Some x ↦ Some x.id ])) ≡ true → Expiring s session
     due None f e = absurd (cc)
     due (Some x) f e =
-        elim (nat_le index_limit s.last) as (λ b. nat_le index_limit s.last ≡ b → is_expiry_of session (cond b (Not_now LogEnd) (Expires x.id)) ≡ true → Expiring s session) [
+        elim (nat_le last_limit s.last) as (λ b. nat_le last_limit s.last ≡ b → is_expiry_of session (cond b (Not_now LogEnd) (Expires x.id)) ≡ true → Expiring s session) [
           | true ↦ λ t e. absurd (cc)
           | false ↦ λ t e.
               let same : x.id ≡ session = eqb-true x.id session e in
-              record { found = subst (λ n. (y : Session) × (found_session n s.sessions ≡ Some y)) same (found_own s.sessions (is_due time) x f); more = leb-false index_limit s.last t }
+              record { found = subst (λ n. (y : Session) × (found_session n s.sessions ≡ Some y)) same (found_own s.sessions (is_due time) x f); more = let below = leb-false last_limit s.last t in omega (arith, below) }
         ] refl e
 
 room : (last : ℕ) → admits_more last ≡ Admitted → last < index_limit
-room last e = leb-false index_limit last (unrefused (nat_le index_limit last) LogEnd e)
+room last e = let below = leb-false last_limit last (unrefused (nat_le last_limit last) LogEnd e) in omega (arith, below)
 
 -- ---- one entry
 
@@ -168,12 +168,12 @@ module _ (d : MachineDecision) (lawful : MachineIsLawful d) (s : Hosted) (h : Is
       let known = open_index s h.sound session x.0 x.1 in
       record { fit = unsigned session known.1; ranged = known; fitting = refl; standing = refl; chosen = tt }
 
-  command_is : (session seq : ℕ) (name : List ℕ) (op : Op) (x : Session) → found_session session s.sessions ≡ Some x → seq ≤ index_limit → x.seq < seq → OpFits op → s.last < index_limit → (c : Choice) → hosted_choice d s session name op ≡ c → BodyIs d s (choice_body session seq c)
-  command_is session seq name op x there ranged rises fit more (Declines refusal) e = record { fit = tt; ranged = tt; fitting = refl; standing = refl; chosen = tt }
-  command_is session seq name op x there ranged rises fit more (Decides effect reply) e =
+  command_is : (session seq : ℕ) (name : List ℕ) (op : Op) (x : Session) → found_session session s.sessions ≡ Some x → seq ≤ index_limit → x.seq < seq → IsKey name → OpFits op → s.last < index_limit → (c : Choice) → hosted_choice d s session name op ≡ c → BodyIs d s (choice_body session seq c)
+  command_is session seq name op x there ranged rises key fit more (Declines refusal) e = record { fit = tt; ranged = tt; fitting = refl; standing = refl; chosen = tt }
+  command_is session seq name op x there ranged rises key fit more (Decides effect reply) e =
       let known = open_index s h.sound session x there in
       let asked = asked_there s op session h.sound fit known (omega arith, omega arith) in
-      let is = lawful (machine_cells s.cells) name op session (s.last + 1) effect reply asked e in
+      let is = lawful (machine_cells s.cells) name op session (s.last + 1) effect reply key asked e in
       record {
         fit = (unsigned session known.1, unsigned seq ranged, is.effect_in_range.0, is.reply_in_range.0);
         ranged = (known, (omega arith, ranged), is.effect_in_range.1, is.reply_in_range.1);
@@ -206,7 +206,7 @@ module _ (d : MachineDecision) (lawful : MachineIsLawful d) (s : Hosted) (h : Is
       let r = refusals (of_session session (session_in session s.sessions) (admits_seq seq)) (hosted_declined d s session name op ∷ []) ok in
       let x = Rattle.log_model.proofs.Timely.there session (session_in session s.sessions) (admits_seq seq) r.0 in
       let q = Rattle.log_model.proofs.Timely.seq_fits seq x.0 x.2 in
-      command_is session seq name op x.0 x.1 q.ranged q.rises fit.3 more (hosted_choice d s session name op) refl
+      command_is session seq name op x.0 x.1 q.ranged q.rises fit.2 fit.3 more (hosted_choice d s session name op) refl
 
   pub item_is : (item : Item) → ItemFits item → is_hosted_admitted d s item ≡ true → ItemIs d s item
   item_is (Expired time session) fit ok =

@@ -19,7 +19,7 @@ MuteIsReady (Create name kind) = ⊥
 MuteIsReady _ = Unit {0}
 
 pub mute_lawful : MachineIsLawful mute_decision
-mute_lawful cells name op session index effect reply asked decides = absurd (cc)
+mute_lawful cells name op session index effect reply key asked decides = absurd (cc)
 
 pub mute_one_owner : MachineHasOneOwner mute_decision
 mute_one_owner cells later name name' op op' session session' index index' effect effect' reply reply' apart decides decides' = absurd (cc)
