@@ -7,6 +7,7 @@ pub mod Clients
 pub mod Compactions
 pub mod Entries
 pub mod Examples
+pub mod Free
 pub mod Freely
 pub mod Gather
 pub mod Growth

@@ -14,7 +14,7 @@ use Rattle.host_types.specs.declared.entry.Entry.{Entry}
 use Rattle.host_types.specs.declared.entry.Op.{Op}
 use Rattle.host_types.specs.declared.entry.Refusal.TheVariants.{LogEnd}
 use Rattle.host_types.specs.declared.entry.Reply.{Reply}
-use Rattle.host_types.specs.Cells.{Place, Name_at, Cell_at, Register_at, Alive_at, Held, Cells, at, stands, marked, filled, effect_puts, effect_fits}
+use Rattle.host_types.specs.Cells.{Place, Cell_at, Register_at, Alive_at, Held, Cells, at, stands, marked, filled, effect_puts, effect_fits}
 use Rattle.host_types.specs.Decision.{Choice, Decides, Declines, MachineDecision, IsAsked, MachineIsLawful, MachineHasOneOwner, OwnsAll}
 use Rattle.host_types.specs.Ranges.{IsIndex, IsUnsigned, IsKey, OpFits, BodyFits, EntryFits, IsBodyInRange, IsInRange, AskFits, OfferFits}
 use Rattle.log_model.specs.Cells.{puts, owner_stands, fits_with_owner, fits, after, Numbered, cells, cells_from, up_to}
@@ -37,7 +37,7 @@ use Rattle.log_model.proofs.Tracks.{found_session, refusals, passed}
 use Rattle.log_model.proofs.Timely.{Timely, unrefused, hosted_timely}
 use Rattle.log_model.proofs.Parts.{at_machine, sorted_machine, fits_machine, deletes_machine}
 use Rattle.log_model.proofs.OneSession.{open_is}
-use Rattle.log_model.proofs.Sounds.{each_weaker, each_found, entry_sound}
+use Rattle.log_model.proofs.Sounds.{effect_at_session, each_weaker, each_found, entry_sound}
 use Rattle.log_model.proofs.Admitted.{Placed, known_event, placed_after, replay_is_after}
 
 -- ---- the machine is asked on its own cells
@@ -252,7 +252,7 @@ admitted_live d s item lawful h fit ok = let is = item_is d lawful s h item fit 
 
 pub nothing_live : IsLive hosted_nothing
 nothing_live = record {
-  sound = record { last_in_range = omega arith; cells_rise = refl; cells_in_range = λ p h e. absurd (cc); cells_are_past = λ p h e. absurd (cc); sessions_rise = tt; opened = λ id. refl; heard = λ id h e. absurd (cc); sessions_are = tt };
+  sound = record { last_in_range = omega arith; cells_rise = refl; cells_in_range = λ p h e. absurd (cc); cells_are_past = λ p h e. absurd (cc); sessions_rise = tt; opened = λ id. refl; instances_are_past = λ m cell h e. absurd (cc); apart = λ p q h g o e. absurd (cc); heard = λ id h e. absurd (cc); sessions_are = tt };
   acks_are_past = tt;
 }
 
@@ -300,12 +300,6 @@ cells-hosted d s (item ∷ items) = cells-hosted d (hosted_step d s item) items
 abbrev pub first_owner : Numbered → Place → Option ℕ
 first_owner [] p = None
 first_owner (x ∷ xs) p = elim (at (puts x.0 x.1.body) p) [ None ↦ first_owner xs p | Some held ↦ held.owner ]
-
--- only a command puts at a machine's place
-effect_at_session : (i : ℕ) (f : Effect) (p : Place) (h : Held) → at (effect_puts i f) p ≡ Some h → (is_session : Rattle.log_model.specs.Hosted.is_machine_place p ≡ false) → ⊥
-effect_at_session i (Create name kind) p h e out = let same = (single (Name_at name) _ p h e).0 in let yes = ap Rattle.log_model.specs.Hosted.is_machine_place same in absurd (cc)
-effect_at_session i (Put instance cell content owner) p h e out = let same = (single (Cell_at instance cell) _ p h e).0 in let yes = ap Rattle.log_model.specs.Hosted.is_machine_place same in absurd (cc)
-effect_at_session i _ p h e out = absurd (cc)
 
 marked_at : (q : Place) (i : ℕ) (p : Place) (h : Held) → Rattle.log_model.specs.Hosted.is_machine_place q ≡ false → at ((q, marked i) ∷ []) p ≡ Some h → (Rattle.log_model.specs.Hosted.is_machine_place p ≡ false) × (h.owner ≡ None)
 marked_at q i p h out e =

@@ -1,7 +1,8 @@
 -- Entries in range keep a host's state sound.
-use Rattle.std.proofs.Common.{◌≡◌, ◌⊎◌, ℕ, ◌<◌, ◌≤◌, Bool, true, false, cond, not, ◌&&◌, ◌||◌, ◌==◌, nat_le, nat_lt, List, [], ◌∷◌, ◌++◌, map, Option, Some, None, is_some, refl, sym, ap, subst, ◌∙◌, inl, inr, arith, eq-eqb, eqb-true, ltb-true, leb-false}
+use Rattle.std.proofs.Common.{T, ◌≡◌, ◌⊎◌, ℕ, ◌<◌, ◌≤◌, Bool, true, false, cond, not, ◌&&◌, ◌||◌, ◌==◌, nat_le, nat_lt, List, [], ◌∷◌, ◌++◌, map, Option, Some, None, is_some, refl, sym, ap, subst, ◌∙◌, inl, inr, arith, eq-eqb, eqb-true, ltb-true, leb-false}
 use Rattle.std.proofs.lemmas.Bool.{cases_eq, false_from_ne_true, and_parts, or_right}
-use Rattle.std.specs.List.{filter, AllByRecursion}
+use Rattle.std.specs.FinMap.{is_sorted}
+use Rattle.std.specs.List.{filter, list_any, AllByRecursion}
 use Rattle.host_types.specs.Limits.{index_limit}
 use Rattle.host_types.specs.declared.entry.Effect.{Effect}
 use Rattle.host_types.specs.declared.entry.Effect.TheVariants.{Create, Delete, Put}
@@ -10,16 +11,18 @@ use Rattle.host_types.specs.declared.entry.Body.TheVariants.{Register, Alive, Cl
 use Rattle.host_types.specs.declared.entry.Entry.{Entry}
 use Rattle.host_types.specs.declared.entry.Event.{Event}
 use Rattle.host_types.specs.declared.entry.Reply.{Reply}
-use Rattle.host_types.specs.Cells.{Place, Name_at, Cell_at, Register_at, Alive_at, Held, Cells, at, marked, named, filled, effect_puts, effect_covers, is_owned_by}
+use Rattle.host_types.specs.declared.entry.Cell.{Cell}
+use Rattle.host_types.specs.Cells.{is_name_for, place_cmp, Place, Name_at, Cell_at, Register_at, Alive_at, Held, Cells, at, marked, named, filled, effect_puts, effect_covers, is_owned_by}
 use Rattle.host_types.specs.Ranges.{IsIndex, EffectFits, IsEffectInRange, IsPlaceInRange, IsHeldInRange, BodyFits, EntryFits, IsBodyInRange, IsInRange}
 use Rattle.log_model.specs.Cells.{puts, covers, fits, after}
 use Rattle.log_model.specs.Plain.{Kept_reply, Kept_batch, Session}
 use Rattle.log_model.specs.Step.{one_batch, events_of, changed, with_reply, new_session}
-use Rattle.log_model.specs.Hosted.{Hosted}
+use Rattle.log_model.specs.Hosted.{Hosted, is_machine_place}
 use Rattle.log_model.specs.Replay.{Telling, noted, heard, replay_alive, replay_reply, replay_batches, replay_sessions, replay_entry}
 use Rattle.log_model.specs.Sound.{IsPast, IsSessionSound, IsSound}
 use Rattle.log_model.proofs.Places.{place_total, exact_places}
-use Rattle.log_model.proofs.Lookups.{T_from, from_T, tied_true}
+use Rattle.log_model.proofs.Lookups.{T_from, from_T, tied_true, found_from_any}
+use Rattle.log_model.proofs.OneSession.{open_is as session_is}
 use Rattle.log_model.proofs.Changes.{Change, Written, Taken, Left, change, sorted-after}
 use Rattle.log_model.proofs.Entries.{single, puts-index, effect_register, effect_covers_register}
 use Rattle.log_model.proofs.Tracks.{find_without, find_beside, some_map, some_push, untouched, written, emptied, other_place, register_is, changed_id, found_session}
@@ -260,9 +263,9 @@ some_register : (o : Bool) (id : ℕ) → is_some (registered_as o id) ≡ true 
 some_register true id e = refl
 some_register false id e = absurd (cc)
 
--- who has an alive place is open, and nobody owns it
-heard_next : (c : Cells) (i : ℕ) (e : Entry) (id : ℕ) (o : Bool) (held : Held) → at c (Register_at id) ≡ registered_as o id → ((h : Held) → at c (Alive_at id) ≡ Some h → (o ≡ true) × (h.owner ≡ None)) → at (after c i e) (Alive_at id) ≡ Some held → (open_after i e.body id o ≡ true) × (held.owner ≡ None)
-heard_next c i e id o held opened heard there = go (change c i e (Alive_at id))
+-- who has an alive place is open, nobody owns it, and it is of a later entry than the session's
+heard_next : (c : Cells) (last i : ℕ) (e : Entry) (id : ℕ) (o : Bool) (held : Held) → last < i → (o ≡ true → id ≤ last) → at c (Register_at id) ≡ registered_as o id → ((h : Held) → at c (Alive_at id) ≡ Some h → (o ≡ true) × (h.owner ≡ None) × (id < h.index)) → at (after c i e) (Alive_at id) ≡ Some held → (open_after i e.body id o ≡ true) × (held.owner ≡ None) × (id < held.index)
+heard_next c last i e id o held low past opened heard there = go (change c i e (Alive_at id))
   where
     still : (b : Body) → ((h : Held) → at c (Alive_at id) ≡ Some h → covers b (Alive_at id) h ≡ false) → (h : Held) → at c (Alive_at id) ≡ Some h → o ≡ true → open_after i b id o ≡ true
     still (Register timeout) v h f k = ap (λ b. b || (i == id)) k
@@ -278,22 +281,104 @@ heard_next c i e id o held opened heard there = go (change c i e (Alive_at id))
     still Tick v h f k = k
     still (Command session seq effect reply) v h f k = k
 
-    go : Change c i e (Alive_at id) → (open_after i e.body id o ≡ true) × (held.owner ≡ None)
+    go : Change c i e (Alive_at id) → (open_after i e.body id o ≡ true) × (held.owner ≡ None) × (id < held.index)
     go (Written h f w a) =
         let r = alive_put i e.body id h w in
         let fit : fits c (Alive id r.0 r.1) ≡ true = ap (fits c) (sym r.2) ∙ f in
         let open_now : o ≡ true = some_register o id (ap is_some (sym opened) ∙ fit) in
         let same : h ≡ held = (let same : Some h ≡ Some held = sym a ∙ there in (cc)) in
-        (ap (λ b. open_after i b id o) r.2 ∙ open_now, ap (λ (g : Held). g.owner) (sym same) ∙ r.3)
+        let at_i : h.index ≡ i = puts-index i e.body (Alive_at id) h w in
+        let index : held.index ≡ i = ap (λ (g : Held). g.index) (sym same) ∙ at_i in
+        let old = past open_now in
+        (ap (λ b. open_after i b id o) r.2 ∙ open_now, ap (λ (g : Held). g.owner) (sym same) ∙ r.3, omega arith)
     go (Taken h w v a) = absurd (cc)
     go (Left u v s) =
         let before = sym s ∙ there in
         let k = heard held before in
-        (still e.body v held before k.0, k.1)
+        (still e.body v held before k.0, k.1, k.2)
+
+-- only a command puts at a machine's place
+pub effect_at_session : (i : ℕ) (f : Effect) (p : Place) (h : Held) → at (effect_puts i f) p ≡ Some h → is_machine_place p ≡ false → ⊥
+effect_at_session i (Create name kind) p h e out = let same = (single (Name_at name) _ p h e).0 in let yes = ap is_machine_place same in absurd (cc)
+effect_at_session i (Put instance cell content owner) p h e out = let same = (single (Cell_at instance cell) _ p h e).0 in let yes = ap is_machine_place same in absurd (cc)
+effect_at_session i _ p h e out = absurd (cc)
+
+-- an entry that puts at a session's place puts nowhere else
+puts_one : (i : ℕ) (b : Body) (p q : Place) (h g : Held) → is_machine_place p ≡ false → at (puts i b) p ≡ Some h → at (puts i b) q ≡ Some g → p ≡ q
+puts_one i (Register timeout) p q h g out w v = (single (Register_at i) (marked i) p h w).0 ∙ sym (single (Register_at i) (marked i) q g v).0
+puts_one i (Alive session seq event) p q h g out w v = (single (Alive_at session) (marked i) p h w).0 ∙ sym (single (Alive_at session) (marked i) q g v).0
+puts_one i (Command session seq effect reply) p q h g out w v = absurd (effect_at_session i effect p h w out)
+puts_one i _ p q h g out w v = absurd (cc)
+
+-- an entry that is held at a session's place is held nowhere else
+apart_next : (c : Cells) (last i : ℕ) (e : Entry) → last < i → ((p : Place) (h : Held) → at c p ≡ Some h → h.index ≤ last) → ((p q : Place) (h g : Held) → is_machine_place p ≡ false → at c p ≡ Some h → at c q ≡ Some g → h.index ≡ g.index → p ≡ q) → (p q : Place) (h g : Held) → is_machine_place p ≡ false → at (after c i e) p ≡ Some h → at (after c i e) q ≡ Some g → h.index ≡ g.index → p ≡ q
+apart_next c last i e low past apart p q h g out f k same = go (change c i e p) (change c i e q)
+  where
+    both : (x y : Held) → Some x ≡ Some y → x ≡ y
+    both x y e = (cc)
+
+    go : Change c i e p → Change c i e q → p ≡ q
+    go (Written x fit w a) (Written y fit' v b) = puts_one i e.body p q x y out w v
+    go (Written x fit w a) (Taken y v z b) = absurd (cc)
+    go (Written x fit w a) (Left u v s) =
+        let at_i = puts-index i e.body p x w in
+        let is : x ≡ h = both x h (sym a ∙ f) in
+        let index : h.index ≡ i = ap (λ (z : Held). z.index) (sym is) ∙ at_i in
+        let old = past q g (sym s ∙ k) in
+        absurd (omega arith)
+    go (Taken x w v a) change_q = absurd (cc)
+    go (Left u v s) (Written y fit w a) =
+        let at_i = puts-index i e.body q y w in
+        let is : y ≡ g = both y g (sym a ∙ k) in
+        let index : g.index ≡ i = ap (λ (z : Held). z.index) (sym is) ∙ at_i in
+        let old = past p h (sym s ∙ f) in
+        absurd (omega arith)
+    go (Left u v s) (Taken y w z b) = absurd (cc)
+    go (Left u v s) (Left u' v' s') = apart p q h g out (sym s ∙ f) (sym s' ∙ k) same
+
+-- what is put stands where a name does
+put_instance : (c : Cells) (i : ℕ) (b : Body) (m : ℕ) (cell : Cell) (h : Held) → T (is_sorted place_cmp c) → fits c b ≡ true → at (puts i b) (Cell_at m cell) ≡ Some h → (n : List ℕ) × (g : Held) × (at c (Name_at n) ≡ Some g) × (g.index ≡ m)
+put_instance c i (Command session seq (Put k other content owner) reply) m cell h s f w =
+    let is = (single (Cell_at k other) (filled i content owner) (Cell_at m cell) h w).0 in
+    let same : m ≡ k = (cc) in
+    let r = found_from_any place_total exact_places (is_name_for k other content) c s (and_parts (list_any (is_name_for k other content) c) _ f).0 in
+    go r.0 r.1 same r.2 r.3
+  where
+    go : (p : Place) (g : Held) → m ≡ k → at c p ≡ Some g → is_name_for k other content (p, g) ≡ true → (n : List ℕ) × (g : Held) × (at c (Name_at n) ≡ Some g) × (g.index ≡ m)
+    go (Name_at n) g same there t = (n, g, there, eqb-true g.index k (and_parts _ _ t).0 ∙ sym same)
+    go _ g same there t = absurd (cc)
+put_instance c i (Command session seq (Create name kind) reply) m cell h s f w = absurd (cc)
+put_instance c i (Command session seq effect reply) m cell h s f w = absurd (cc)
+put_instance c i (Register timeout) m cell h s f w = absurd (cc)
+put_instance c i (Alive session seq event) m cell h s f w = absurd (cc)
+put_instance c i _ m cell h s f w = absurd (cc)
+
+instances_next : (c : Cells) (last i : ℕ) (e : Entry) → T (is_sorted place_cmp c) → last < i → ((p : Place) (h : Held) → at c p ≡ Some h → h.index ≤ last) → ((m : ℕ) (cell : Cell) (h : Held) → at c (Cell_at m cell) ≡ Some h → m ≤ last) → (m : ℕ) (cell : Cell) (h : Held) → at (after c i e) (Cell_at m cell) ≡ Some h → m ≤ i
+instances_next c last i e s low past old m cell h there = go (change c i e (Cell_at m cell))
+  where
+    go : Change c i e (Cell_at m cell) → m ≤ i
+    go (Written g f w a) =
+        let r = put_instance c i e.body m cell g s f w in
+        let l = past (Name_at r.0) r.1 r.2 in
+        let same = r.3 in
+        omega arith
+    go (Taken g w v a) = absurd (cc)
+    go (Left u v same) = let l = old m cell h (sym same ∙ there) in omega arith
 
 ready_one : (last i : ℕ) (e : Entry) → last < i → (ss : List Session) → AllByRecursion (IsSessionSound last) ss → Ready ((i, e) ∷ []) ss
 ready_one last i e low [] h = tt
 ready_one last i e low (x ∷ ss) h = let l = h.0.id.1 in ((omega arith, tt), ready_one last i e low ss h.1)
+
+-- who is open was registered before
+open_past : (s : Hosted) → IsSound s → (id : ℕ) → is_open id s.sessions ≡ true → id ≤ s.last
+open_past s h id o = go (found_session id s.sessions) refl o
+  where
+    go : (p : Option Session) → found_session id s.sessions ≡ p → is_some (found_session id s.sessions) ≡ true → id ≤ s.last
+    go None e o = let no = ap is_some e in absurd (cc)
+    go (Some x) e o =
+        let is = session_is id s.sessions x e in
+        let k = (each_found (IsSessionSound s.last) s.sessions h.sessions_are id x e).id in
+        omega (arith, k.1)
 
 pub entry_sound : (telling : Telling) (cut : ℕ) (s : Hosted) (i : ℕ) (e : Entry) → IsSound s → s.last < i → EntryFits e → IsInRange i e → IsSound (replay_entry telling cut s (i, e))
 entry_sound telling cut s i e h low fit right =
@@ -307,6 +392,8 @@ entry_sound telling cut s i e h low fit right =
       cells_are_past = held_after (λ p h. h.index ≤ i) s.cells i e (λ p h w. let same = puts-index i e.body p h w in omega arith) (λ p held f. let l = h.cells_are_past p held f in omega arith);
       sessions_rise = (rising_next cut e.time told e.body i e [] s.sessions tt (ready_one s.last i e low s.sessions h.sessions_are) h.sessions_rise).1;
       opened = λ id. register_next s.cells i e id (is_open id s.sessions) (h.opened id) ∙ ap (λ b. registered_as b id) (sym (open_is id));
-      heard = λ id held there. let k = heard_next s.cells i e id (is_open id s.sessions) held (h.opened id) (h.heard id) there in (open_is id ∙ k.0, k.1);
+      instances_are_past = instances_next s.cells s.last i e (T_from _ h.cells_rise) low h.cells_are_past h.instances_are_past;
+      apart = apart_next s.cells s.last i e low h.cells_are_past h.apart;
+      heard = λ id held there. let k = heard_next s.cells s.last i e id (is_open id s.sessions) held low (open_past s h id) (h.opened id) (h.heard id) there in (open_is id ∙ k.0, k.1, k.2);
       sessions_are = sessions_sound s.last i low index cut e.time told e.body s.sessions right.body h.sessions_are;
     }

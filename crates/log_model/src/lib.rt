@@ -13,7 +13,7 @@ ghost use Rattle.log_model.specs.ReplayLaws.{AdmittedIsReplayed, ReplayGivesFold
 ghost use Rattle.log_model.specs.Serving.{BatchesAreLinked, BatchesGrow, ClientTakesAll, ClientTakesRun, KeepsTheRest};
 ghost use Rattle.log_model.specs.Sessions.{SessionsLaw};
 ghost use Rattle.log_model.specs.Shows.{CloseShows, OthersShow, RowsShow};
-ghost use Rattle.log_model.specs.Sound.{EntriesKeepSound};
+ghost use Rattle.log_model.specs.Sound.{EntriesKeepSound, NextIndexIsFree};
 ghost use Rattle.log_model.specs.Telling.{CellsShow, CellsTell, ReplayOfLogs};
 
 use host_types::{Index, Refusal};
@@ -235,4 +235,9 @@ pub fn plain_machines_are_plain()
 /// At the places of sessions each open session's register entry is held, and its last keep-alive if there was one.
 pub fn session_places_are()
     ensures { SessionPlacesAre }
+{}
+
+/// An index that isn't past is held nowhere, and no cell of its instance stands.
+pub fn next_index_is_free()
+    ensures { NextIndexIsFree }
 {}
