@@ -1,16 +1,16 @@
 -- A host's log that grows.
-use Rattle.std.proofs.Common.{◌≡◌, ℕ, ◌+◌, ◌-◌, ◌≤◌, Bool, true, false, cond, ◌&&◌, ◌||◌, ◌==◌, List, [], ◌∷◌, ◌++◌, Option, Some, None, refl, sym, ap, subst, ◌∙◌, arith, eq-eqb, eqb-true}
+use Rattle.std.proofs.Common.{length, ◌≡◌, ℕ, ◌+◌, ◌-◌, ◌≤◌, Bool, true, false, cond, ◌&&◌, ◌||◌, ◌==◌, List, [], ◌∷◌, ◌++◌, Option, Some, None, refl, sym, ap, subst, ◌∙◌, arith, eq-eqb, eqb-true}
 use Rattle.std.proofs.lemmas.Bool.{and_parts, and_from}
 use Rattle.std.specs.Option.{option_map}
 use Rattle.host_types.specs.declared.entry.Body.{Body}
 use Rattle.host_types.specs.declared.entry.Body.TheVariants.{Register, Alive, Close, Tick, Command}
 use Rattle.host_types.specs.declared.entry.Entry.{Entry}
 use Rattle.host_types.specs.Cells.{Register_at, Alive_at, Held, at, stands, marked, is_owned_by}
-use Rattle.host_types.specs.Decision.{MachineDecision}
-use Rattle.log_model.specs.Cells.{puts, after}
+use Rattle.host_types.specs.Decision.{MachineDecision, MachineIsLawful, MachineHasOneOwner}
+use Rattle.log_model.specs.Cells.{puts, after, Numbered, is_released}
 use Rattle.log_model.specs.Admission.{Item}
 use Rattle.log_model.specs.Quiet.{kept_of}
-use Rattle.log_model.specs.Hosted.{Hosted, hosted_nothing, hosted_entry, hosted_told, hosted_step, hosted_from, hosted_folded, hosted_stored_from, is_hosted_admitted, is_hosted_log_from, hosted_quiet}
+use Rattle.log_model.specs.Hosted.{is_hosted_log, hosted_stored, Hosted, hosted_nothing, hosted_entry, hosted_told, hosted_step, hosted_from, hosted_folded, hosted_stored_from, is_hosted_admitted, is_hosted_log_from, hosted_quiet}
 use Rattle.log_model.specs.Parts.{alive_index, alive_after}
 use Rattle.log_model.specs.Sound.{IsSound}
 use Rattle.log_model.specs.Machines.{Grown, Whole}
@@ -20,7 +20,11 @@ use Rattle.log_model.proofs.Changes.{Change, Written, Taken, Left, change}
 use Rattle.log_model.proofs.Entries.{single}
 use Rattle.log_model.proofs.Growth.{AllKeep, to_each, from_each, keep_after, below_kept, greatest}
 use Rattle.log_model.proofs.Tracks.{untouched, emptied}
-use Rattle.log_model.proofs.OfMachines.{last-hosted, cells-hosted, length-hosted}
+use Rattle.log_model.proofs.OfMachines.{last-hosted, cells-hosted, length-hosted, lawful_from, nothing_live, first_owner, one_owner}
+use Rattle.log_model.proofs.Markings.{marks_law}
+use Rattle.log_model.specs.Cleaning.{numbered, entry_at, Cleaned}
+use Rattle.log_model.specs.Fitting.{ItemsFit}
+use Rattle.log_model.specs.Released.{mark_of, released_at}
 use Rattle.log_model.proofs.Sounds.{effect_alive, effect_covers_alive}
 
 and_true : (b : Bool) → (b && true) ≡ b
@@ -102,3 +106,12 @@ alives_follow s i e id h = go e.time e.body
         ] refl
     go t Tick = ap (option_map (λ (g : Held). g.index)) (untouched s.cells i (record { time = t; body = Tick }) (Alive_at id) refl (λ h _. refl))
     go t (Command session seq effect reply) = ap (option_map (λ (g : Held). g.index)) (untouched s.cells i (record { time = t; body = Command session seq effect reply }) (Alive_at id) (effect_alive i effect id) (λ h _. effect_covers_alive effect id))
+
+-- ---- marks
+
+pub marks_of_machines : (d : MachineDecision) (items : List Item) (left : Numbered) (k f : ℕ) → MachineIsLawful d → MachineHasOneOwner d → ItemsFit items → is_hosted_log d items ≡ true → Cleaned left (hosted_stored d items) (hosted_quiet (hosted_folded d items)) k f → (j : ℕ) (e : Entry) → entry_at left j ≡ Some e → (cut : ℕ) → k ≤ cut → cut ≤ length items → released_at (mark_of left j) cut ≡ is_released (numbered (hosted_stored d items)) cut j
+marks_of_machines d items left k f lawful one fit log cleaned j e there cut low high =
+    let n = length-hosted d hosted_nothing items in
+    let r = lawful_from d lawful hosted_nothing items nothing_live fit log in
+    let entries = numbered (hosted_stored d items) in
+    marks_law left (hosted_stored d items) (hosted_quiet (hosted_folded d items)) k f (first_owner entries) r.0 (one_owner d one entries r.1) cleaned j e there cut low (omega arith)

@@ -12,6 +12,7 @@ pub mod Freely
 pub mod Gather
 pub mod Growth
 pub mod Guards
+pub mod HostedExamples
 pub mod HostedLogs
 pub mod Indexed
 pub mod Joined
@@ -28,6 +29,7 @@ pub mod Places
 pub mod PlainMachines
 pub mod QuietGreatest
 pub mod ReadOff
+pub mod ReplayExamples
 pub mod Replaying
 pub mod Rising
 pub mod RowEffects

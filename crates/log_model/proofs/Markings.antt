@@ -1,5 +1,5 @@
 -- The marks of a replay.
-use Rattle.std.proofs.Common.{◌≡◌, ◌⊎◌, ℕ, ◌<◌, ◌≤◌, Bool, true, false, cond, not, ◌&&◌, ◌||◌, ◌==◌, nat_le, T, List, [], ◌∷◌, length, Option, Some, None, refl, sym, ap, subst, ◌∙◌, inl, inr, arith, eq-eqb, eqb-true, le-leb, leb-false}
+use Rattle.std.proofs.Common.{◌++◌, ◌≡◌, ◌⊎◌, ℕ, ◌<◌, ◌≤◌, Bool, true, false, cond, not, ◌&&◌, ◌||◌, ◌==◌, nat_le, T, List, [], ◌∷◌, length, Option, Some, None, refl, sym, ap, subst, ◌∙◌, inl, inr, arith, eq-eqb, eqb-true, le-leb, leb-false}
 use Rattle.std.proofs.lemmas.Bool.{lt-leb, cases_eq, false_from_ne_true}
 use Rattle.std.specs.FinMap.{find, is_sorted, nat_cmp-IsAntisymmetric}
 use Rattle.std.specs.Ordering.{nat_cmp, eq_by_cmp}
@@ -8,7 +8,7 @@ use Rattle.host_types.specs.declared.entry.Entry.{Entry}
 use Rattle.host_types.specs.Cells.{Place, Held, place_cmp, Cells, at}
 use Rattle.log_model.specs.Cells.{Numbered, after, cells_from, cells, up_to, is_held, is_released}
 use Rattle.log_model.specs.Cleaning.{numbered, entry_at, Cleaned, is_lawful_from, HasOneOwner}
-use Rattle.log_model.specs.Released.{releases, mark_from, mark_of, released_at}
+use Rattle.log_model.specs.Released.{mark_from, mark_of, released_at, releases}
 use Rattle.log_model.proofs.Places.{place_total, exact_places}
 use Rattle.log_model.proofs.Lookups.{T_from, tied_same, found_from_any, any_from_found}
 use Rattle.log_model.proofs.Changes.{Change, Written, Taken, Left, change, sorted-after}
@@ -146,3 +146,10 @@ marks_law left all quiet k f owner_of lawful owned h j e there cut low high =
     mark_is j cut e [] left tt (T_from _ h.rises) there refl
     ∙ ap (λ c. nat_le j cut && not (is_held c j)) law
     ∙ ap (λ b. b && nat_le j cut && not (is_held (cells (up_to cut (numbered all))) j)) (sym (le-leb 1 j r.0))
+
+follow_from : (j : ℕ) (c : Cells) (xs : Numbered) (mark : Option ℕ) (i : ℕ) (e : Entry) → mark_from j c (xs ++ (i, e) ∷ []) mark ≡ cond (releases (cells_from c xs) (after (cells_from c xs) i e) i j) (Some i) (mark_from j c xs mark)
+follow_from j c [] mark i e = refl
+follow_from j c (x ∷ xs) mark i e = follow_from j (after c x.0 x.1) xs (cond (releases c (after c x.0 x.1) x.0 j) (Some x.0) mark) i e
+
+pub marks_follow : (entries : Numbered) (i : ℕ) (e : Entry) (j : ℕ) → mark_of (entries ++ (i, e) ∷ []) j ≡ cond (releases (cells entries) (after (cells entries) i e) i j) (Some i) (mark_of entries j)
+marks_follow entries i e j = follow_from j [] entries None i e

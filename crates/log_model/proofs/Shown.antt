@@ -1,7 +1,7 @@
 -- The cells of a log show at each moment the names and the resources that tell events.
 use Rattle.std.proofs.Common.{◌≡◌, ◌⊎◌, inl, inr, ⊎_elim, ℕ, ℤ, ◌+◌, ◌<◌, ◌≤◌, Bool, true, false, cond, not, ◌&&◌, ◌==◌, nat_le, T, List, [], ◌∷◌, ◌++◌, map, length, Option, Some, None, is_some, refl, sym, ap, subst, ◌∙◌, arith, eqb-true}
 use Rattle.std.proofs.lemmas.Bool.{and_parts, false_from_ne_true}
-use Rattle.std.specs.List.{filter, list_any}
+use Rattle.std.specs.List.{filter}
 use Rattle.std.specs.FinMap.{find, is_sorted}
 use Rattle.std.specs.Option.{option_map, option_map_or}
 use Rattle.std.specs.Ordering.{nat_cmp, eq_by_cmp}
@@ -32,12 +32,12 @@ use Rattle.log_model.specs.Step.{closed_name, commanded, asked, step}
 use Rattle.log_model.specs.Stored.{decided_body, asked_body, entry_of, is_admitted, is_log_from}
 use Rattle.log_model.specs.Shows.{Shows, IsFresh, OwnersSuit}
 use Rattle.log_model.specs.Telling.{name_held, by_instance, EachName, ShowsState, ShownFrom, CellsShow, CellsTell, ReplayOfLogs, told_by_cells}
-use Rattle.log_model.proofs.Places.{place_total, exact_places}
-use Rattle.log_model.proofs.Lookups.{from_T, found_from_any}
+use Rattle.log_model.proofs.Lookups.{from_T}
 use Rattle.log_model.proofs.Changes.{Change, Written, Taken, Left, change, sorted-after}
 use Rattle.log_model.proofs.Entries.{single, puts-index}
 use Rattle.log_model.proofs.Growth.{last_step}
 use Rattle.log_model.proofs.RowEffects.{RowSuits, row_suits, closing_kind}
+use Rattle.log_model.proofs.Sounds.{put_instance}
 use Rattle.log_model.proofs.Sets.{sorted_push, sorted_where}
 use Rattle.log_model.proofs.ShownRows.{rows_shown}
 use Rattle.log_model.proofs.ShownCloses.{others_shown, closes_shown}
@@ -133,20 +133,6 @@ uncovered_other m n (Pair key word) (WipeKey k other) on ne = ap (λ b. b && is_
 uncovered_other m n _ (WipeKey k other) on ne = refl
 uncovered_other m n cell (Delete name k) on ne = differs k n (λ e. ne (sym e ∙ on))
 uncovered_other m n cell _ on ne = refl
-
--- what is put stands where a name does
-put_instance : (c : Cells) (i : ℕ) (b : Body) (m : ℕ) (cell : Cell) (h : Held) → T (is_sorted place_cmp c) → fits c b ≡ true → at (puts i b) (Cell_at m cell) ≡ Some h → (n : List ℕ) × (g : Held) × (at c (Name_at n) ≡ Some g) × (g.index ≡ m)
-put_instance c i (Commanded session seq (Put k other content owner) reply) m cell h s f w =
-    let is = (single (Cell_at k other) (filled i content owner) (Cell_at m cell) h w).0 in
-    let same : m ≡ k = (cc) in
-    let r = found_from_any place_total exact_places (is_name_for k other content) c s (and_parts (list_any (is_name_for k other content) c) _ f).0 in
-    go r.0 r.1 same r.2 r.3
-  where
-    go : (p : Place) (g : Held) → m ≡ k → at c p ≡ Some g → is_name_for k other content (p, g) ≡ true → (n : List ℕ) × (g : Held) × (at c (Name_at n) ≡ Some g) × (g.index ≡ m)
-    go (Name_at n) g same there t = (n, g, there, eqb-true g.index k (and_parts _ _ t).0 ∙ sym same)
-    go _ g same there t = absurd (cc)
-put_instance c i (Commanded session seq effect reply) m cell h s f w = absurd (none_some w)
-put_instance c i _ m cell h s f w = absurd (none_some w)
 
 -- whose cells have owners
 

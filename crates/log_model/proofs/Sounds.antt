@@ -337,7 +337,7 @@ apart_next c last i e low past apart p q h g out f k same = go (change c i e p) 
     go (Left u v s) (Left u' v' s') = apart p q h g out (sym s ∙ f) (sym s' ∙ k) same
 
 -- what is put stands where a name does
-put_instance : (c : Cells) (i : ℕ) (b : Body) (m : ℕ) (cell : Cell) (h : Held) → T (is_sorted place_cmp c) → fits c b ≡ true → at (puts i b) (Cell_at m cell) ≡ Some h → (n : List ℕ) × (g : Held) × (at c (Name_at n) ≡ Some g) × (g.index ≡ m)
+pub put_instance : (c : Cells) (i : ℕ) (b : Body) (m : ℕ) (cell : Cell) (h : Held) → T (is_sorted place_cmp c) → fits c b ≡ true → at (puts i b) (Cell_at m cell) ≡ Some h → (n : List ℕ) × (g : Held) × (at c (Name_at n) ≡ Some g) × (g.index ≡ m)
 put_instance c i (Command session seq (Put k other content owner) reply) m cell h s f w =
     let is = (single (Cell_at k other) (filled i content owner) (Cell_at m cell) h w).0 in
     let same : m ≡ k = (cc) in

@@ -1,12 +1,14 @@
 -- The laws of logs over any machine that is known by its decision.
-use Rattle.std.specs.Prelude.{◌≡◌, ℕ, ◌+◌, ◌≤◌, ◌&&◌, List, [], ◌∷◌, ◌++◌, length, IsTrue}
+use Rattle.std.specs.Prelude.{◌≡◌, ℕ, ◌+◌, ◌≤◌, ◌&&◌, List, [], ◌∷◌, ◌++◌, length, Some, IsTrue}
 use Rattle.host_types.specs.Decision.{MachineDecision, MachineIsLawful, MachineHasOneOwner}
+use Rattle.host_types.specs.declared.entry.Entry.{Entry}
 use Rattle.host_types.specs.Ranges.{EntryFits, IsInRange}
-use Rattle.log_model.specs.Cells.{Numbered, cells, up_to}
-use Rattle.log_model.specs.Cleaning.{numbered, Cleaned}
+use Rattle.log_model.specs.Cells.{Numbered, cells, up_to, is_released}
+use Rattle.log_model.specs.Cleaning.{numbered, entry_at, Cleaned}
 use Rattle.log_model.specs.Admission.{Item}
 use Rattle.log_model.specs.Fitting.{ItemFits, ItemsFit}
 use Rattle.log_model.specs.Hosted.{Hosted, hosted_entry, hosted_step, hosted_folded, hosted_stored, is_hosted_admitted, is_hosted_log, hosted_quiet}
+use Rattle.log_model.specs.Released.{mark_of, released_at}
 use Rattle.log_model.specs.Sound.{IsSound}
 use Rattle.log_model.specs.ReplayLaws.{AcksArePast}
 
@@ -67,3 +69,16 @@ HostedLogIsWhole = (d : MachineDecision) (items : List Item) → Whole d items
 -- as the log grows, quiet doesn't fall
 abbrev pub HostedQuietGrows : Type 0
 HostedQuietGrows = (d : MachineDecision) (items more : List Item) → hosted_quiet (hosted_folded d items) ≤ hosted_quiet (hosted_folded d (items ++ more))
+
+-- from the cut of a cleaned log on, the marks that its replay makes tell what is released in the whole log
+abbrev pub MarksLawOfMachines : Type 0
+MarksLawOfMachines =
+    (d : MachineDecision) (items : List Item) (left : Numbered) (k f : ℕ)
+    → MachineIsLawful d
+    → MachineHasOneOwner d
+    → ItemsFit items
+    → IsTrue (is_hosted_log d items)
+    → Cleaned left (hosted_stored d items) (hosted_quiet (hosted_folded d items)) k f
+    → (j : ℕ) (e : Entry) → entry_at left j ≡ Some e
+    → (cut : ℕ) → k ≤ cut → cut ≤ length items
+    → released_at (mark_of left j) cut ≡ is_released (numbered (hosted_stored d items)) cut j

@@ -1,8 +1,8 @@
 -- The index that released an entry, as a replay finds it.
-use Rattle.std.specs.Prelude.{◌≡◌, ℕ, ◌≤◌, Bool, false, cond, not, ◌&&◌, ◌||◌, nat_le, ◌==◌, List, [], ◌∷◌, length, Option, Some, None, IsTrue}
+use Rattle.std.specs.Prelude.{◌≡◌, ℕ, ◌≤◌, Bool, false, cond, not, ◌&&◌, ◌||◌, nat_le, ◌==◌, List, [], ◌∷◌, ◌++◌, length, Option, Some, None, IsTrue}
 use Rattle.host_types.specs.declared.entry.Entry.{Entry}
 use Rattle.host_types.specs.Cells.{Place, Cells}
-use Rattle.log_model.specs.Cells.{Numbered, after, is_held, is_released}
+use Rattle.log_model.specs.Cells.{Numbered, after, cells, is_held, is_released}
 use Rattle.log_model.specs.Cleaning.{numbered, entry_at, Cleaned, is_lawful_from, HasOneOwner}
 
 -- j held a cell, or is this entry, and holds none now
@@ -30,3 +30,9 @@ MarksLaw =
     → (j : ℕ) (e : Entry) → entry_at left j ≡ Some e
     → (cut : ℕ) → k ≤ cut → cut ≤ length all
     → released_at (mark_of left j) cut ≡ is_released (numbered all) cut j
+
+-- one entry more: the marks stay, but that of what it releases
+abbrev pub MarksFollow : Type 0
+MarksFollow =
+    (entries : Numbered) (i : ℕ) (e : Entry) (j : ℕ)
+    → mark_of (entries ++ (i, e) ∷ []) j ≡ cond (releases (cells entries) (after (cells entries) i e) i j) (Some i) (mark_of entries j)

@@ -4,11 +4,11 @@
 
 ghost use Rattle.log_model.specs.Cleaning.{AppendKeeps, CentralLaw, CentralLawOfLogs, FreshIsCleaned, ReleasedGrows};
 ghost use Rattle.log_model.specs.Kept.{MajorKeeps, MinorKeeps};
-ghost use Rattle.log_model.specs.Machines.{AdmittedStaysLive, CentralLawOfMachines, HostedLogGrows, HostedLogIsWhole, HostedQuietGrows, LogsAreLive};
+ghost use Rattle.log_model.specs.Machines.{AdmittedStaysLive, CentralLawOfMachines, HostedLogGrows, HostedLogIsWhole, HostedQuietGrows, LogsAreLive, MarksLawOfMachines};
 ghost use Rattle.log_model.specs.Parts.{AlivesFollow, MachinePartFollows, PlacesAreParted, SessionPlacesAre};
 ghost use Rattle.log_model.specs.PlainMachine.{PlainMachinesArePlain};
 ghost use Rattle.log_model.specs.Quiet.{QuietGrows, QuietIsGreatest};
-ghost use Rattle.log_model.specs.Released.{MarksLaw};
+ghost use Rattle.log_model.specs.Released.{MarksFollow, MarksLaw};
 ghost use Rattle.log_model.specs.ReplayLaws.{AdmittedIsReplayed, ReplayGivesFold, ReplayGivesHostedFold, ReplayLaw};
 ghost use Rattle.log_model.specs.Serving.{BatchesAreLinked, BatchesGrow, ClientTakesAll, ClientTakesRun, KeepsTheRest};
 ghost use Rattle.log_model.specs.Sessions.{SessionsLaw};
@@ -240,4 +240,14 @@ pub fn session_places_are()
 /// An index that isn't past is held nowhere, and no cell of its instance stands.
 pub fn next_index_is_free()
     ensures { NextIndexIsFree }
+{}
+
+/// The same over any machine whose decisions are lawful and whose places have one owner.
+pub fn marks_law_of_machines()
+    ensures { MarksLawOfMachines }
+{}
+
+/// One entry more marks what it releases, and nothing else.
+pub fn marks_follow()
+    ensures { MarksFollow }
 {}
