@@ -1,10 +1,9 @@
 -- How an entry at its index is spelled, which entries have a spelling, and which entry bytes spell. Each number of more
 -- than one byte stands with its greatest byte first.
-use Rattle.std.specs.Prelude.{◌≡◌, ◌≤◌, ◌<◌, ◌^◌, ℕ, ℤ, Bool, true, false, List, [], ◌∷◌, ◌++◌, length, Option, Some, None, FitsSigned}
-use Rattle.std.specs.List.{flat_map, AllByRecursion}
+use Rattle.std.specs.Prelude.{◌≡◌, ℕ, ℤ, Bool, true, false, List, [], ◌∷◌, ◌++◌, length}
+use Rattle.std.specs.List.{flat_map}
 use Rattle.std.specs.Int.{w16, w64, to_be_bytes, cast_unsigned}
-use Rattle.host_types.specs.Limits.{index_limit, key_limit, word_limit, words_limit, indexes_limit}
-pub use Rattle.host_types.specs.Ranges.{IsUnsigned, IsKey, IsWord, owner_number, CellFits, ContentFits, EffectFits, ReplyFits, IsIndex, IsCellInRange, IsOwner, IsEffectInRange, IsReplyInRange}
+pub use Rattle.host_types.specs.Ranges.{IsUnsigned, IsKey, IsWord, owner_number, CellFits, ContentFits, EffectFits, ReplyFits, IsIndex, IsCellInRange, IsOwner, IsEffectInRange, IsReplyInRange, BodyFits, EntryFits, IsBodyInRange, IsInRange}
 use Rattle.host_types.specs.declared.entry.Entry.{Entry}
 use Rattle.host_types.specs.declared.entry.Body.{Body}
 use Rattle.host_types.specs.declared.entry.Body.TheVariants as bodies
@@ -92,32 +91,6 @@ body_spelled (bodies.Command session seq effect reply) = 5 ∷ number_spelled se
 -- an entry at its index: the index, the time, and the body
 unfoldable pub spelled : ℕ → Entry → List ℕ
 spelled index entry = number_spelled index ++ number_spelled entry.time ++ body_spelled entry.body
-
--- ---- what the types of an entry hold by themselves: numbers of 64 bits, keys and words that are texts, short lists
-
-abbrev pub BodyFits : Body → Type 0
-BodyFits (bodies.Register timeout) = IsUnsigned timeout
-BodyFits (bodies.Alive session seq event) = IsUnsigned session × IsUnsigned seq × IsUnsigned event
-BodyFits (bodies.Close session expired) = IsUnsigned session
-BodyFits bodies.Tick = Unit {0}
-BodyFits (bodies.Command session seq effect reply) = IsUnsigned session × IsUnsigned seq × EffectFits effect × ReplyFits reply
-
-pub record EntryFits (entry : Entry) : Type 0 where
-  pub time : IsUnsigned entry.time
-  pub body : BodyFits entry.body
-
--- ---- what the format asks beyond that: which numbers are indexes
-
-abbrev pub IsBodyInRange : Body → Type 0
-IsBodyInRange (bodies.Register timeout) = Unit {0}
-IsBodyInRange (bodies.Alive session seq event) = IsIndex session × (seq ≤ index_limit) × IsIndex event
-IsBodyInRange (bodies.Close session expired) = IsIndex session
-IsBodyInRange bodies.Tick = Unit {0}
-IsBodyInRange (bodies.Command session seq effect reply) = IsIndex session × IsIndex seq × IsEffectInRange effect × IsReplyInRange reply
-
-pub record IsInRange (index : ℕ) (entry : Entry) : Type 0 where
-  pub at : IsIndex index
-  pub body : IsBodyInRange entry.body
 
 -- these bytes, and no others, spell this entry at this index
 pub record IsSpelledBy (bytes : List ℕ) (index : ℕ) (entry : Entry) : Type 0 where
