@@ -28,7 +28,7 @@ use Rattle.log_model.specs.Hosted.{Hosted, hosted_nothing, machine_cells, hosted
 use Rattle.log_model.specs.Sound.{IsSessionSound, IsSound}
 use Rattle.log_model.specs.Replay.{replay_entry}
 use Rattle.log_model.specs.ReplayLaws.{AcksArePast}
-use Rattle.log_model.specs.Machines.{IsLive}
+use Rattle.log_model.specs.Machines.{IsLogSound}
 use Rattle.log_model.proofs.Lookups.{T_from, from_T}
 use Rattle.log_model.proofs.Entries.{single}
 use Rattle.log_model.proofs.Growth.{below_kept}
@@ -149,7 +149,7 @@ owner_there c session i (WipeKey instance key) owns there fit = fit
 owner_there c session i Nothing owns there fit = fit
 owner_there c session i (Tell instance word) owns there fit = fit
 
-module _ (d : MachineDecision) (lawful : MachineIsLawful d) (s : Hosted) (h : IsLive s) where
+module _ (d : MachineDecision) (lawful : MachineIsLawful d) (s : Hosted) (h : IsLogSound s) where
   open_session : (id : ℕ) (rest : Session → Admission) → of_session id (session_in id s.sessions) rest ≡ Admitted → (x : Session) × (found_session id s.sessions ≡ Some x)
   open_session id rest e = go (session_in id s.sessions) refl e
     where
@@ -236,7 +236,7 @@ step_is_replay d s item h a ok =
     let same = replay_is_after s.last i e.time (hosted_told d s.cells i e.body) e.body s.sessions (omega arith) h.sessions_rise (placed_all s h a) (hosted_timely d s item ok) in
     λ j. record { last = i; now = e.time; sessions = sym same j; cells = after s.cells i e }
 
-pub step_live : (d : MachineDecision) (s : Hosted) (item : Item) → MachineIsLawful d → IsLive s → ItemFits item → is_hosted_admitted d s item ≡ true → IsLive (hosted_step d s item)
+pub step_live : (d : MachineDecision) (s : Hosted) (item : Item) → MachineIsLawful d → IsLogSound s → ItemFits item → is_hosted_admitted d s item ≡ true → IsLogSound (hosted_step d s item)
 step_live d s item lawful h fit ok =
     let is = item_is d lawful s h item fit ok in
     let e = hosted_entry d s item in
@@ -247,22 +247,22 @@ step_live d s item lawful h fit ok =
       acks_are_past = each_weaker (Placed i) (λ (x : Session). x.acked_event ≤ i) (λ x p. p.acked) _ (placed_after s.last i (omega arith) e.time (hosted_told d s.cells i e.body) e.body s.sessions (hosted_timely d s item ok) (placed_all s h.sound h.acks_are_past));
     }
 
-pub admitted_live : (d : MachineDecision) (s : Hosted) (item : Item) → MachineIsLawful d → IsLive s → ItemFits item → is_hosted_admitted d s item ≡ true → IsLive (hosted_step d s item) × EntryFits (hosted_entry d s item) × IsInRange (s.last + 1) (hosted_entry d s item)
+pub admitted_live : (d : MachineDecision) (s : Hosted) (item : Item) → MachineIsLawful d → IsLogSound s → ItemFits item → is_hosted_admitted d s item ≡ true → IsLogSound (hosted_step d s item) × EntryFits (hosted_entry d s item) × IsInRange (s.last + 1) (hosted_entry d s item)
 admitted_live d s item lawful h fit ok = let is = item_is d lawful s h item fit ok in (step_live d s item lawful h fit ok, is.fit, is.ranged)
 
-pub nothing_live : IsLive hosted_nothing
+pub nothing_live : IsLogSound hosted_nothing
 nothing_live = record {
   sound = record { last_in_range = omega arith; cells_rise = refl; cells_in_range = λ p h e. absurd (cc); cells_are_past = λ p h e. absurd (cc); sessions_rise = tt; opened = λ id. refl; instances_are_past = λ m cell h e. absurd (cc); apart = λ p q h g o e. absurd (cc); heard = λ id h e. absurd (cc); sessions_are = tt };
   acks_are_past = tt;
 }
 
-pub live_from : (d : MachineDecision) → MachineIsLawful d → (s : Hosted) (items : List Item) → IsLive s → ItemsFit items → is_hosted_log_from d s items ≡ true → IsLive (hosted_from d s items)
+pub live_from : (d : MachineDecision) → MachineIsLawful d → (s : Hosted) (items : List Item) → IsLogSound s → ItemsFit items → is_hosted_log_from d s items ≡ true → IsLogSound (hosted_from d s items)
 live_from d lawful s [] h fit ok = h
 live_from d lawful s (item ∷ items) h fit ok =
     let p = and_parts (is_hosted_admitted d s item) (is_hosted_log_from d (hosted_step d s item) items) ok in
     live_from d lawful (hosted_step d s item) items (step_live d s item lawful h fit.0 p.0) fit.1 p.1
 
-pub logs_live : (d : MachineDecision) (items : List Item) → MachineIsLawful d → ItemsFit items → is_hosted_log d items ≡ true → IsLive (hosted_folded d items)
+pub logs_live : (d : MachineDecision) (items : List Item) → MachineIsLawful d → ItemsFit items → is_hosted_log d items ≡ true → IsLogSound (hosted_folded d items)
 logs_live d items lawful fit ok = live_from d lawful hosted_nothing items nothing_live fit ok
 
 -- ---- a whole log
@@ -273,7 +273,7 @@ EachChosen d xs = AllByRecursion (λ (x : ℕ × Entry). Chosen d x.0 x.1.body) 
 abbrev pub entries_from : MachineDecision → Hosted → List Item → Numbered
 entries_from d s items = enumerate_from (s.last + 1) (hosted_stored_from d s items)
 
-pub lawful_from : (d : MachineDecision) → MachineIsLawful d → (s : Hosted) (items : List Item) → IsLive s → ItemsFit items → is_hosted_log_from d s items ≡ true → (is_lawful_from s.cells (entries_from d s items) ≡ true) × EachChosen d (entries_from d s items)
+pub lawful_from : (d : MachineDecision) → MachineIsLawful d → (s : Hosted) (items : List Item) → IsLogSound s → ItemsFit items → is_hosted_log_from d s items ≡ true → (is_lawful_from s.cells (entries_from d s items) ≡ true) × EachChosen d (entries_from d s items)
 lawful_from d lawful s [] h fit ok = (refl, tt)
 lawful_from d lawful s (item ∷ items) h fit ok =
     let p = and_parts (is_hosted_admitted d s item) (is_hosted_log_from d (hosted_step d s item) items) ok in

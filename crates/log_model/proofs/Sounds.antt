@@ -18,7 +18,7 @@ use Rattle.log_model.specs.Cells.{puts, covers, fits, after}
 use Rattle.log_model.specs.Plain.{Kept_reply, Kept_batch, Session}
 use Rattle.log_model.specs.Step.{one_batch, events_of, changed, with_reply, new_session}
 use Rattle.log_model.specs.Hosted.{Hosted, is_machine_place}
-use Rattle.log_model.specs.Replay.{Telling, noted, heard, replay_alive, replay_reply, replay_batches, replay_sessions, replay_entry}
+use Rattle.log_model.specs.Replay.{Telling, noted, replay_alive, replay_reply, replay_batches, replay_sessions, replay_entry}
 use Rattle.log_model.specs.Sound.{IsPast, IsSessionSound, IsSound}
 use Rattle.log_model.proofs.Places.{place_total, exact_places}
 use Rattle.log_model.proofs.Lookups.{T_from, from_T, tied_true, found_from_any}

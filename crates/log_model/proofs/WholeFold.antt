@@ -18,7 +18,7 @@ use Rattle.log_model.specs.Quiet.{kept_of, quiet, keeps_none_up_to}
 use Rattle.log_model.specs.Fitting.{ItemsFit}
 use Rattle.log_model.specs.Hosted.{Hosted, hosted_nothing, hosted_entry, hosted_told, sessions_after, hosted_step, hosted_from, hosted_folded, hosted_stored, is_hosted_admitted, is_hosted_log_from, is_hosted_log, hosted_quiet}
 use Rattle.log_model.specs.Sound.{IsPast, IsSessionSound, Rises}
-use Rattle.log_model.specs.Machines.{IsLive}
+use Rattle.log_model.specs.Machines.{IsLogSound}
 use Rattle.log_model.specs.Replay.{Telling, replay_sessions, replay_entry, replay_from, replayed}
 use Rattle.log_model.specs.ReplayLaws.{is_orderly_from, TellsFrom, TellsAsPlain, as_folded}
 use Rattle.log_model.proofs.Growth.{EachOf, AllKeep, to_each, below_kept, last_step, length-stored, numbers_above}
@@ -113,7 +113,7 @@ gives_fold telling items left k f tells log cleaned =
 -- ---- the same of a machine
 
 module _ (d : MachineDecision) (lawful : MachineIsLawful d) where
-  whole_hosted : (s : Hosted) (items : List Item) → IsLive s → ItemsFit items → is_hosted_log_from d s items ≡ true → (replay_from (hosted_told d) 0 s (entries_from d s items) ≡ hosted_from d s items) × (is_orderly_from (hosted_told d) s (entries_from d s items) ≡ true)
+  whole_hosted : (s : Hosted) (items : List Item) → IsLogSound s → ItemsFit items → is_hosted_log_from d s items ≡ true → (replay_from (hosted_told d) 0 s (entries_from d s items) ≡ hosted_from d s items) × (is_orderly_from (hosted_told d) s (entries_from d s items) ≡ true)
   whole_hosted s [] h fit log = (refl, refl)
   whole_hosted s (item ∷ items) h fit log =
       let p = and_parts (is_hosted_admitted d s item) (is_hosted_log_from d (hosted_step d s item) items) log in

@@ -86,9 +86,11 @@ admits_asked sessions declined (Unregister session) = of_session session (sessio
 admits_asked sessions declined Tick = Admitted
 admits_asked sessions declined (Command session seq name op) = first_refusal (of_session session (session_in session sessions) (admits_seq seq) ∷ declined session name op ∷ [])
 
+-- the time isn't below the log's
 abbrev pub admits_time : ℕ → ℕ → Admission
 admits_time now time = refused_if (nat_lt time now) (Time now)
 
+-- the log isn't at its end
 abbrev pub admits_more : ℕ → Admission
 admits_more last = refused_if (nat_le last_limit last) LogEnd
 
@@ -96,12 +98,15 @@ admits_more last = refused_if (nat_le last_limit last) LogEnd
 abbrev pub admits_offer : ℕ → ℕ → List Session → (ℕ → List ℕ → Op → Admission) → Offer → Admission
 admits_offer last now sessions declined o = first_refusal (admits_time now o.time ∷ refused_due (due_in o.time sessions) ∷ admits_asked sessions declined o.ask ∷ admits_more last ∷ [])
 
+-- whether the state declines a command
 abbrev pub declined_by : State → ℕ → List ℕ → Op → Admission
 declined_by s session name op = refused_outcome (outcome s name session op)
 
+-- what is asked of the plain state
 abbrev pub admits_ask : State → Ask → Admission
 admits_ask s ask = admits_asked s.sessions (declined_by s) ask
 
+-- an offer to the plain state
 abbrev pub admits : State → Offer → Admission
 admits s o = admits_offer s.last s.now s.sessions (declined_by s) o
 
@@ -115,8 +120,10 @@ abbrev pub expires_due : ℕ → Option ℕ → Expiry
 expires_due last None = Nobody
 expires_due last (Some id) = cond (nat_le last_limit last) (Not_now LogEnd) (Expires id)
 
+-- who of these sessions expires
 abbrev pub expires_in : ℕ → ℕ → List Session → ℕ → Expiry
 expires_in last now sessions time = cond (nat_lt time now) (Not_now (Time now)) (expires_due last (due_in time sessions))
 
+-- who of the plain state does
 abbrev pub expires : State → ℕ → Expiry
 expires s time = expires_in s.last s.now s.sessions time

@@ -9,5 +9,6 @@ abbrev pub ItemFits : Item → Type 0
 ItemFits (Offered o) = OfferFits o
 ItemFits (Expired time session) = IsUnsigned time × IsUnsigned session
 
+-- each of them
 abbrev pub ItemsFit : List Item → Type 0
 ItemsFit items = AllByRecursion ItemFits items

@@ -24,6 +24,7 @@ pub record Hosted : Type 0 where
   pub sessions : List Session
   pub cells : Cells
 
+-- the host of an empty log
 abbrev pub hosted_nothing : Hosted
 hosted_nothing = record { last = 0; now = 0; sessions = []; cells = [] }
 
@@ -43,10 +44,12 @@ machine_cells cells = where_key place_cmp is_machine_place cells
 abbrev pub hosted_choice : MachineDecision → Hosted → ℕ → List ℕ → Op → Choice
 hosted_choice d s session name op = d.resolve (machine_cells s.cells) name op session (s.last + 1)
 
+-- a decision to store lets a command pass
 abbrev pub refused_choice : Choice → Admission
 refused_choice (Decides effect reply) = Admitted
 refused_choice (Declines refusal) = Refused refusal
 
+-- whether the machine declines a command
 abbrev pub hosted_declined : MachineDecision → Hosted → ℕ → List ℕ → Op → Admission
 hosted_declined d s session name op = refused_choice (hosted_choice d s session name op)
 
@@ -58,16 +61,19 @@ hosted_admits d s o = admits_offer s.last s.now s.sessions (hosted_declined d s)
 abbrev pub hosted_expires : Hosted → ℕ → Expiry
 hosted_expires s time = expires_in s.last s.now s.sessions time
 
+-- the item is admitted
 abbrev pub is_hosted_admitted : MachineDecision → Hosted → Item → Bool
 is_hosted_admitted d s (Offered o) = is_admission (hosted_admits d s o)
 is_hosted_admitted d s (Expired time session) = is_expiry_of session (hosted_expires s time)
 
 -- ---- what is stored, and what an entry does
 
+-- the body that a decision stores
 abbrev pub choice_body : ℕ → ℕ → Choice → Body
 choice_body session seq (Decides effect reply) = Command session seq effect reply
 choice_body session seq (Declines refusal) = Tick
 
+-- the body of a command
 abbrev pub hosted_command : MachineDecision → Hosted → ℕ → ℕ → List ℕ → Op → Body
 hosted_command d s session seq name op = choice_body session seq (hosted_choice d s session name op)
 

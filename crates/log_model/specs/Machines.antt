@@ -24,29 +24,29 @@ CentralLawOfMachines =
     → (m : ℕ) → k ≤ m → m ≤ length items
     → cells (up_to m left) ≡ cells (up_to m (numbered (hosted_stored d items)))
 
--- the state of a host, and that of a log
-pub record IsLive (s : Hosted) : Type 0 where
+-- a host whose state is sound as that of a log
+pub record IsLogSound (s : Hosted) : Type 0 where
   pub sound : IsSound s
   pub acks_are_past : AcksArePast s
 
--- the state stays so after an admitted item, whose entry is in range
-abbrev pub AdmittedStaysLive : Type 0
-AdmittedStaysLive =
+-- an admitted item, whose entry is in range, keeps it so
+abbrev pub AdmittedKeepsSound : Type 0
+AdmittedKeepsSound =
     (d : MachineDecision) (s : Hosted) (item : Item)
     → MachineIsLawful d
-    → IsLive s
+    → IsLogSound s
     → ItemFits item
     → IsTrue (is_hosted_admitted d s item)
-    → IsLive (hosted_step d s item) × EntryFits (hosted_entry d s item) × IsInRange (s.last + 1) (hosted_entry d s item)
+    → IsLogSound (hosted_step d s item) × EntryFits (hosted_entry d s item) × IsInRange (s.last + 1) (hosted_entry d s item)
 
 -- and so it is after a whole log
-abbrev pub LogsAreLive : Type 0
-LogsAreLive =
+abbrev pub LogsAreSound : Type 0
+LogsAreSound =
     (d : MachineDecision) (items : List Item)
     → MachineIsLawful d
     → ItemsFit items
     → IsTrue (is_hosted_log d items)
-    → IsLive (hosted_folded d items)
+    → IsLogSound (hosted_folded d items)
 
 -- one item more
 pub record Grown (d : MachineDecision) (items : List Item) (item : Item) : Type 0 where

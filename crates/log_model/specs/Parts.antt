@@ -24,6 +24,7 @@ machine_after cells i (Command session seq effect reply) machine = cond (put_own
 machine_after cells i (Close session expired) machine = without_owner session machine
 machine_after cells i _ machine = machine
 
+-- the machine's part of the cells follows the machine
 abbrev pub MachinePartFollows : Type 0
 MachinePartFollows =
     (cells : Cells) (i : ℕ) (e : Entry)
@@ -40,6 +41,7 @@ alive_after cells i (Alive session seq event) id = cond (session == id && stands
 alive_after cells i (Close session expired) id = cond (session == id) None (alive_index cells id)
 alive_after cells i _ id = alive_index cells id
 
+-- which entry is held as the last keep-alive, after each entry
 abbrev pub AlivesFollow : Type 0
 AlivesFollow =
     (s : Hosted) (i : ℕ) (e : Entry) (id : ℕ)
@@ -58,6 +60,7 @@ PlacesAreParted = (cells : Cells) (index : ℕ) → places_of cells index ≡ pl
 abbrev pub commits_of : Hosted → List (ℕ × Option ℕ)
 commits_of s = map (λ x. (x.id, alive_index s.cells x.id)) s.sessions
 
+-- a keep-alive is held at one place
 abbrev pub alive_places : Option ℕ → ℕ → ℕ
 alive_places None index = 0
 alive_places (Some alive) index = cond (alive == index) 1 0
@@ -67,5 +70,6 @@ abbrev pub commit_places : List (ℕ × Option ℕ) → ℕ → ℕ
 commit_places [] index = 0
 commit_places (x ∷ commits) index = cond (x.0 == index) 1 0 + alive_places x.1 index + commit_places commits index
 
+-- the places of sessions are those of the open ones
 abbrev pub SessionPlacesAre : Type 0
 SessionPlacesAre = (s : Hosted) (index : ℕ) → IsSound s → places_of (session_cells s.cells) index ≡ commit_places (commits_of s) index

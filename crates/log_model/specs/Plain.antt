@@ -86,6 +86,7 @@ pub record State : Type 0 where
 abbrev pub nothing_yet : State
 nothing_yet = record { last = 0; now = 0; sessions = []; names = [] }
 
+-- the session with this id, if it is open
 abbrev pub session_in : ℕ → List Session → Option Session
 session_in id sessions = find (λ x. x.id == id) sessions
 

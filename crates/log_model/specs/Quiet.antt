@@ -12,6 +12,7 @@ kept_of sessions = flat_map (λ x. map (λ r. r.index) x.replies ++ map (λ b. b
 abbrev pub kept_indexes : State → List ℕ
 kept_indexes s = kept_of s.sessions
 
+-- at or below k nothing is kept
 abbrev pub keeps_none_up_to : ℕ → List Session → Bool
 keeps_none_up_to k sessions = not (list_any (λ i. nat_le i k) (kept_of sessions))
 

@@ -9,13 +9,16 @@ use Rattle.log_model.specs.Cleaning.{numbered, entry_at, Cleaned, is_lawful_from
 abbrev pub releases : Cells → Cells → ℕ → ℕ → Bool
 releases before now i j = (is_held before j || i == j) && not (is_held now j)
 
+-- the last index that released j, in a replay from these cells on
 abbrev pub mark_from : ℕ → Cells → Numbered → Option ℕ → Option ℕ
 mark_from j c [] mark = mark
 mark_from j c (x ∷ xs) mark = mark_from j (after c x.0 x.1) xs (cond (releases c (after c x.0 x.1) x.0 j) (Some x.0) mark)
 
+-- the mark of j
 abbrev pub mark_of : Numbered → ℕ → Option ℕ
 mark_of entries j = mark_from j [] entries None
 
+-- by this mark it is released at the cut
 abbrev pub released_at : Option ℕ → ℕ → Bool
 released_at None cut = false
 released_at (Some by) cut = nat_le by cut

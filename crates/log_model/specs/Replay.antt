@@ -27,8 +27,8 @@ abbrev pub trimmed : ℕ → Session → Session
 trimmed event x = cond (nat_lt event x.acked_event) x (record x { acked_event = event; batches = filter (λ b. nat_lt event b.index) x.batches })
 
 -- a keep-alive
-abbrev pub heard : ℕ → ℕ → ℕ → Session → Session
-heard time seq event x = trimmed event (record x { last_time = time; acked_seq = seq; replies = filter (λ r. nat_lt seq r.seq) x.replies })
+abbrev pub after_alive : ℕ → ℕ → ℕ → Session → Session
+after_alive time seq event x = trimmed event (record x { last_time = time; acked_seq = seq; replies = filter (λ r. nat_lt seq r.seq) x.replies })
 
 -- one batch of these events, if there are any; one that was acknowledged isn't kept
 abbrev pub pushed : ℕ → List Event → Session → Session
@@ -38,7 +38,7 @@ pushed i events x = cond (nat_le i x.acked_event) x (record x { batches = x.batc
 
 -- the sequence that a keep-alive acknowledges was stored before it
 abbrev pub replay_alive : ℕ → ℕ → ℕ → Session → Session
-replay_alive time seq event x = noted seq (heard time seq event x)
+replay_alive time seq event x = noted seq (after_alive time seq event x)
 
 -- a command keeps its reply above the cut, where its sequence is above the last one
 abbrev pub replay_reply : ℕ → ℕ → ℕ → Reply → Session → Session
@@ -48,6 +48,7 @@ replay_reply cut seq i reply x = cond (nat_lt cut i && nat_lt x.seq seq) (with_r
 abbrev pub replay_batches : ℕ → ℕ → List (ℕ × Event) → List Session → List Session
 replay_batches cut i told sessions = cond (nat_lt cut i) (map (λ x. pushed i (events_of x.id told) x) sessions) sessions
 
+-- the sessions after an entry at this index, of this time, that told these events
 abbrev pub replay_sessions : ℕ → ℕ → ℕ → List (ℕ × Event) → Body → List Session → List Session
 replay_sessions cut i time told (Register timeout) sessions = sessions ++ new_session i time timeout ∷ []
 replay_sessions cut i time told (Alive session seq event) sessions = changed session (replay_alive time seq event) sessions
@@ -55,6 +56,7 @@ replay_sessions cut i time told (Close session expired) sessions = replay_batche
 replay_sessions cut i time told Tick sessions = sessions
 replay_sessions cut i time told (Command session seq effect reply) sessions = changed session (replay_reply cut seq i reply) (replay_batches cut i told sessions)
 
+-- the state after an entry
 abbrev pub replay_entry : Telling → ℕ → Hosted → ℕ × Entry → Hosted
 replay_entry telling cut s x = record {
   last = x.0;

@@ -12,6 +12,7 @@ abbrev pub chained : ℕ → List Kept_batch → List Batch
 chained previous [] = []
 chained previous (b ∷ bs) = record { index = b.index; previous = previous; events = b.events } ∷ chained b.index bs
 
+-- the batches above an event
 abbrev pub after_event : ℕ → List Batch → List Batch
 after_event event bs = filter (λ b. nat_lt event b.index) bs
 
@@ -35,8 +36,7 @@ BatchesAreLinked = (items : List Item) (id : ℕ) → Linked id (batches items i
 abbrev pub BatchesGrow : Type 0
 BatchesGrow = (items more : List Item) (id : ℕ) → (rest : List Batch) × (batches (items ++ more) id ≡ batches items id ++ rest)
 
--- a client
-
+-- a client takes the batch, or leaves it
 abbrev pub took : Take → Batch → List Batch → List Batch
 took Taken b rest = b ∷ rest
 took Repeated b rest = rest
@@ -47,10 +47,12 @@ abbrev pub taken : ℕ → List Batch → List Batch
 taken last [] = []
 taken last (b ∷ offers) = took (take_batch last b) b (taken (last_after last b) offers)
 
+-- it is one of these
 abbrev pub IsOneOf : Batch → List Batch → Type 0
 IsOneOf b [] = ⊥
 IsOneOf b (x ∷ xs) = (b ≡ x) ⊎ IsOneOf b xs
 
+-- each of them is
 abbrev pub AreOf : List Batch → List Batch → Type 0
 AreOf [] bs = Unit {0}
 AreOf (b ∷ offers) bs = IsOneOf b bs × AreOf offers bs

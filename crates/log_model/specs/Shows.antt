@@ -18,13 +18,16 @@ use Rattle.log_model.specs.Cells.{fits_with_owner, after}
 use Rattle.log_model.specs.Plain.{Member, Plain, Value_is, Counter_is, Map_is, Multimap_is, Set_is, Queue_is, Lock_is, Group_is, Topic_is, has_item, keyed, pair_cmp}
 use Rattle.log_model.specs.Rows.{is_waiter, Does, row, without_session}
 
+-- what the cells show at a place
 abbrev pub content_at : Cells → Place → Option Content
 content_at cells place = option_map (λ held. held.content) (at cells place)
 
+-- a counter that was never set is 0
 abbrev pub number_of : Option Content → ℤ
 number_of (Some (Number number)) = number
 number_of _ = pos 0
 
+-- the index of the entry that holds a place
 abbrev pub index_at : Cells → Place → ℕ
 index_at cells place = option_map_or (λ held. held.index) (at cells place) 0
 
@@ -36,6 +39,7 @@ member_at cells place = option_map (λ held. (held.content, held.owner)) (at cel
 abbrev pub member_cell : Member → Content × Option ℕ
 member_cell x = (Text x.word, Some x.session)
 
+-- the members as pairs, by their indexes
 abbrev pub by_index : List Member → List (ℕ × Member)
 by_index members = map (λ x. (x.index, x)) members
 
@@ -43,6 +47,7 @@ by_index members = map (λ x. (x.index, x)) members
 abbrev pub by_holding : ℕ → Cells → List (ℕ × ℕ) → List (ℕ × (ℕ × ℕ))
 by_holding m c waiters = map (λ w. (index_at c (Cell_at m (Waiter w.0 w.1)), w)) waiters
 
+-- the listeners of an instance
 abbrev pub Listens : ℕ → Cells → List ℕ → Type 0
 Listens m c listeners = IsTrue (is_sorted nat_cmp (keyed listeners)) × ((session : ℕ) → stands c (Cell_at m (Of session)) ≡ has_item nat_cmp session listeners)
 

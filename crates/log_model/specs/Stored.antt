@@ -28,6 +28,7 @@ abbrev pub entry_with : (ℕ → ℕ → List ℕ → Op → Body) → Item → 
 entry_with commanded (Offered o) = record { time = o.time; body = body_of commanded o.ask }
 entry_with commanded (Expired time session) = record { time = time; body = Closed session true }
 
+-- the body of a command
 abbrev pub command_body : State → ℕ → ℕ → List ℕ → Op → Body
 command_body s session seq name op = decided_body session seq (outcome s name session op)
 
@@ -46,6 +47,7 @@ stored_from s (item ∷ items) = entry_of s item ∷ stored_from (step s item) i
 abbrev pub stored : List Item → List Entry
 stored items = stored_from nothing_yet items
 
+-- it says that it is admitted
 abbrev pub is_admission : Admission → Bool
 is_admission Admitted = true
 is_admission (Repeats reply) = false

@@ -31,14 +31,17 @@ abbrev pub picked : {X : Type 0} → Option (ℕ × X) → List (ℕ × X) → L
 picked None rest = rest
 picked (Some w) rest = put nat_cmp w.0 w.1 rest
 
+-- what is picked of all the cells
 abbrev pub gather : {X : Type 0} → (Place × Held → Option (ℕ × X)) → Cells → List (ℕ × X)
 gather pick [] = []
 gather pick (e ∷ cells) = picked (pick e) (gather pick cells)
 
+-- the names by their instances
 abbrev pub named_pick : Place × Held → Option (ℕ × (List ℕ × Option Kind))
 named_pick (Name_at name, held) = Some (held.index, (name, held.kind))
 named_pick _ = None
 
+-- the listeners of an instance
 abbrev pub listener_pick : ℕ → Place × Held → Option (ℕ × Unit {0})
 listener_pick m (Cell_at instance (Of session), held) = cond (m == instance) (Some (session, tt)) None
 listener_pick m _ = None
@@ -48,6 +51,7 @@ abbrev pub waiter_pick : ℕ → Place × Held → Option (ℕ × (ℕ × ℕ))
 waiter_pick m (Cell_at instance (Waiter session id), held) = cond (m == instance) (Some (held.index, (session, id))) None
 waiter_pick m _ = None
 
+-- the members of an instance by their indexes
 abbrev pub member_held : ℕ → Content → Option ℕ → Option (ℕ × Member)
 member_held j (Text word) (Some session) = Some (j, record { index = j; session = session; word = word })
 member_held j _ _ = None
@@ -77,12 +81,14 @@ effect_tells i name (Group_is ms ls) (Drop m (At j)) = tells_all ls (Left name j
 effect_tells i name (Lock_is ws) (Drop m (Waiter session id)) = granted name ws (filter (λ w. not (is_waiter (session, id) w)) ws)
 effect_tells i name _ _ = []
 
+-- the instance of an effect that may tell something
 abbrev pub effect_instance : Effect → Option ℕ
 effect_instance (Put m cell content owner) = Some m
 effect_instance (Drop m cell) = Some m
 effect_instance (Tell m word) = Some m
 effect_instance _ = None
 
+-- the events of an effect on the resource of a name that was found
 abbrev pub tells_there : Cells → ℕ → ℕ → Effect → Option (List ℕ × Option Kind) → List (ℕ × Event)
 tells_there c i m effect None = []
 tells_there c i m effect (Some n) = effect_tells i n.0 (plain_in m n.1 c) effect
@@ -91,15 +97,18 @@ abbrev pub tells_at : Cells → ℕ → Effect → Option ℕ → List (ℕ × E
 tells_at c i effect None = []
 tells_at c i effect (Some m) = tells_there c i m effect (find nat_cmp m (gather named_pick c))
 
+-- the events of an entry: of a close those of each name, by rising instance
 abbrev pub told_by_cells : Telling
 told_by_cells c i (Command session seq effect reply) = tells_at c i effect (effect_instance effect)
 told_by_cells c i (Close session expired) = flat_map (λ n. (without_session n.1.0 session (plain_in n.0 n.1.1 c)).1) (gather named_pick c)
 told_by_cells c i _ = []
 
+-- what stands at a name
 abbrev pub name_held : Option Named_resource → Option Held
 name_held None = None
 name_held (Some n) = Some (named n.instance (kind_of n.plain))
 
+-- the names as the cells have them
 abbrev pub by_instance : List Named_resource → List (ℕ × (List ℕ × Option Kind))
 by_instance names = map (λ n. (n.instance, (n.name, Some (kind_of n.plain)))) names
 

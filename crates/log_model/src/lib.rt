@@ -4,7 +4,7 @@
 
 ghost use Rattle.log_model.specs.Cleaning.{AppendKeeps, CentralLaw, CentralLawOfLogs, FreshIsCleaned, ReleasedGrows};
 ghost use Rattle.log_model.specs.Kept.{MajorKeeps, MinorKeeps};
-ghost use Rattle.log_model.specs.Machines.{AdmittedStaysLive, CentralLawOfMachines, HostedLogGrows, HostedLogIsWhole, HostedQuietGrows, LogsAreLive, MarksLawOfMachines};
+ghost use Rattle.log_model.specs.Machines.{AdmittedKeepsSound, CentralLawOfMachines, HostedLogGrows, HostedLogIsWhole, HostedQuietGrows, LogsAreSound, MarksLawOfMachines};
 ghost use Rattle.log_model.specs.Parts.{AlivesFollow, MachinePartFollows, PlacesAreParted, SessionPlacesAre};
 ghost use Rattle.log_model.specs.PlainMachine.{PlainMachinesArePlain};
 ghost use Rattle.log_model.specs.Quiet.{QuietGrows, QuietIsGreatest};
@@ -148,13 +148,13 @@ pub fn entries_keep_sound()
 {}
 
 /// An admitted item's entry is in range, and the state of its log stays sound.
-pub fn admitted_stays_live()
-    ensures { AdmittedStaysLive }
+pub fn admitted_keeps_sound()
+    ensures { AdmittedKeepsSound }
 {}
 
 /// The state of a whole log is sound.
-pub fn logs_are_live()
-    ensures { LogsAreLive }
+pub fn logs_are_sound()
+    ensures { LogsAreSound }
 {}
 
 /// An admitted item does what a replay of its entry does, with no cut.
