@@ -25,7 +25,7 @@ pub record Placed (last : ℕ) (x : Session) : Type 0 where
   pub acked : x.acked_event ≤ last
   pub batches : AllByRecursion (λ (b : Kept_batch). (x.acked_event < b.index) × (b.index ≤ last)) x.batches
 
-some_batch : (n last event : ℕ) (bs : List Kept_batch) → AllByRecursion (λ (b : Kept_batch). (n < b.index) × (b.index ≤ last)) bs → list_any (λ b. b.index == event) bs ≡ true → (n < event) × (event ≤ last)
+pub some_batch : (n last event : ℕ) (bs : List Kept_batch) → AllByRecursion (λ (b : Kept_batch). (n < b.index) × (b.index ≤ last)) bs → list_any (λ b. b.index == event) bs ≡ true → (n < event) × (event ≤ last)
 some_batch n last event [] h e = absurd (cc)
 some_batch n last event (b ∷ bs) h e = go (λ k. some_batch n last event bs h.1 k) (or_cases (b.index == event) (list_any (λ b. b.index == event) bs) e)
   where

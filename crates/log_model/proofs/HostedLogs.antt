@@ -20,7 +20,7 @@ use Rattle.log_model.proofs.Changes.{Change, Written, Taken, Left, change}
 use Rattle.log_model.proofs.Entries.{single}
 use Rattle.log_model.proofs.Growth.{AllKeep, to_each, from_each, keep_after, below_kept, greatest}
 use Rattle.log_model.proofs.Tracks.{untouched, emptied}
-use Rattle.log_model.proofs.OfMachines.{last-hosted, cells-hosted, length-hosted, lawful_from, nothing_live, first_owner, one_owner}
+use Rattle.log_model.proofs.OfMachines.{last-hosted, cells-hosted, length-hosted, lawful_from, nothing_sound, first_owner, one_owner}
 use Rattle.log_model.proofs.Markings.{marks_law}
 use Rattle.log_model.specs.Cleaning.{numbered, entry_at, Cleaned}
 use Rattle.log_model.specs.Fitting.{ItemsFit}
@@ -112,6 +112,6 @@ alives_follow s i e id h = go e.time e.body
 pub marks_of_machines : (d : MachineDecision) (items : List Item) (left : Numbered) (k f : ℕ) → MachineIsLawful d → MachineHasOneOwner d → ItemsFit items → is_hosted_log d items ≡ true → Cleaned left (hosted_stored d items) (hosted_quiet (hosted_folded d items)) k f → (j : ℕ) (e : Entry) → entry_at left j ≡ Some e → (cut : ℕ) → k ≤ cut → cut ≤ length items → released_at (mark_of left j) cut ≡ is_released (numbered (hosted_stored d items)) cut j
 marks_of_machines d items left k f lawful one fit log cleaned j e there cut low high =
     let n = length-hosted d hosted_nothing items in
-    let r = lawful_from d lawful hosted_nothing items nothing_live fit log in
+    let r = lawful_from d lawful hosted_nothing items nothing_sound fit log in
     let entries = numbered (hosted_stored d items) in
     marks_law left (hosted_stored d items) (hosted_quiet (hosted_folded d items)) k f (first_owner entries) r.0 (one_owner d one entries r.1) cleaned j e there cut low (omega arith)

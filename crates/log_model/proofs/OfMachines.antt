@@ -1,7 +1,7 @@
 -- Logs over a machine that is known by its decision: whatever is stored is in range and fits, and the state stays sound.
 use Rattle.std.proofs.Common.{◌≡◌, ℕ, suc, ◌+◌, ◌<◌, ◌≤◌, Bool, true, false, cond, ◌&&◌, ◌==◌, nat_le, nat_lt, List, [], ◌∷◌, length, Option, Some, None, is_some, refl, sym, ap, subst, ◌∙◌, ⊎_elim, arith, eq-eqb, eqb-true, leb-false}
-use Rattle.std.proofs.lemmas.Bool.{and_from, and_parts}
-use Rattle.std.specs.List.{find, enumerate_from, AllByRecursion}
+use Rattle.std.proofs.lemmas.Bool.{or_cases, and_from, and_parts}
+use Rattle.std.specs.List.{list_any, find, enumerate_from, AllByRecursion}
 use Rattle.std.specs.FinMap.{is_sorted}
 use Rattle.host_types.specs.Limits.{index_limit, last_limit}
 use Rattle.host_types.specs.declared.entry.Ask.{Ask}
@@ -19,8 +19,8 @@ use Rattle.host_types.specs.Decision.{Choice, Decides, Declines, MachineDecision
 use Rattle.host_types.specs.Ranges.{IsIndex, IsUnsigned, IsKey, OpFits, BodyFits, EntryFits, IsBodyInRange, IsInRange, AskFits, OfferFits}
 use Rattle.log_model.specs.Cells.{puts, owner_stands, fits_with_owner, fits, after, Numbered, cells, cells_from, up_to}
 use Rattle.log_model.specs.Cleaning.{numbered, entry_at, Cleaned, closes_standing, is_lawful_from, HasOneOwner}
-use Rattle.log_model.specs.Plain.{Session, session_in}
-use Rattle.log_model.specs.Admission.{Item, Offered, Expired, Admission, Admitted, is_due, due_in, of_session, admits_seq, admits_asked, admits_more, Expires, Not_now, expires_due, expires_in}
+use Rattle.log_model.specs.Plain.{Kept_batch, Session, session_in}
+use Rattle.log_model.specs.Admission.{is_event_of, Item, Offered, Expired, Admission, Admitted, is_due, due_in, of_session, admits_seq, admits_asked, admits_more, Expires, Not_now, expires_due, expires_in}
 use Rattle.log_model.specs.Stored.{body_of, is_expiry_of}
 use Rattle.log_model.specs.Quiet.{kept_of}
 use Rattle.log_model.specs.Fitting.{ItemFits, ItemsFit}
@@ -38,7 +38,7 @@ use Rattle.log_model.proofs.Timely.{Timely, unrefused, hosted_timely}
 use Rattle.log_model.proofs.Parts.{at_machine, sorted_machine, fits_machine, deletes_machine}
 use Rattle.log_model.proofs.OneSession.{open_is}
 use Rattle.log_model.proofs.Sounds.{effect_at_session, each_weaker, each_found, entry_sound}
-use Rattle.log_model.proofs.Admitted.{Placed, known_event, placed_after, replay_is_after}
+use Rattle.log_model.proofs.Admitted.{Placed, some_batch, placed_after, replay_is_after}
 
 -- ---- the machine is asked on its own cells
 
@@ -149,7 +149,18 @@ owner_there c session i (WipeKey instance key) owns there fit = fit
 owner_there c session i Nothing owns there fit = fit
 owner_there c session i (Tell instance word) owns there fit = fit
 
-module _ (d : MachineDecision) (lawful : MachineIsLawful d) (s : Hosted) (h : IsLogSound s) where
+-- an event that may be acknowledged is in range
+batch_in_range : (n last event : ℕ) (bs : List Kept_batch) → last ≤ index_limit → AllByRecursion (λ (b : Kept_batch). (n < b.index) × (b.index ≤ last)) bs → list_any (λ b. b.index == event) bs ≡ true → IsIndex event
+batch_in_range n last event bs low h e = let r = some_batch n last event bs h e in (omega (arith, r.0), omega (arith, r.1))
+
+known_in_range : (last event : ℕ) (x : Session) → IsSessionSound last x → last ≤ index_limit → is_event_of event x ≡ true → IsIndex event
+known_in_range last event x h low e =
+    ⊎_elim
+    (λ (t : (event == x.acked_event) ≡ true). subst IsIndex (sym (eqb-true event x.acked_event t)) h.event_in_range)
+    (λ (t : list_any (λ b. b.index == event) x.batches ≡ true). batch_in_range x.acked_event last event x.batches low h.batches t)
+    (or_cases (event == x.acked_event) (list_any (λ b. b.index == event) x.batches) e)
+
+module _ (d : MachineDecision) (lawful : MachineIsLawful d) (s : Hosted) (h : IsSound s) where
   open_session : (id : ℕ) (rest : Session → Admission) → of_session id (session_in id s.sessions) rest ≡ Admitted → (x : Session) × (found_session id s.sessions ≡ Some x)
   open_session id rest e = go (session_in id s.sessions) refl e
     where
@@ -157,27 +168,24 @@ module _ (d : MachineDecision) (lawful : MachineIsLawful d) (s : Hosted) (h : Is
       go None f e = absurd (cc)
       go (Some x) f e = (x, f)
 
-  placed_there : (id : ℕ) (x : Session) → found_session id s.sessions ≡ Some x → Placed s.last x
-  placed_there id x e = placed_of s.last x (each_found (IsSessionSound s.last) s.sessions h.sound.sessions_are id x e) (each_found (λ (y : Session). y.acked_event ≤ s.last) s.sessions h.acks_are_past id x e)
-
   sound_there : (id : ℕ) (x : Session) → found_session id s.sessions ≡ Some x → IsSessionSound s.last x
-  sound_there id x e = each_found (IsSessionSound s.last) s.sessions h.sound.sessions_are id x e
+  sound_there id x e = each_found (IsSessionSound s.last) s.sessions h.sessions_are id x e
 
   close_is : (session : ℕ) (expired : Bool) → (x : Session) × (found_session session s.sessions ≡ Some x) → BodyIs d s (Closed session expired)
   close_is session expired x =
-      let known = open_index s h.sound session x.0 x.1 in
+      let known = open_index s h session x.0 x.1 in
       record { fit = unsigned session known.1; ranged = known; fitting = refl; standing = refl; chosen = tt }
 
   command_is : (session seq : ℕ) (name : List ℕ) (op : Op) (x : Session) → found_session session s.sessions ≡ Some x → seq ≤ index_limit → x.seq < seq → IsKey name → OpFits op → s.last < index_limit → (c : Choice) → hosted_choice d s session name op ≡ c → BodyIs d s (choice_body session seq c)
   command_is session seq name op x there ranged rises key fit more (Declines refusal) e = record { fit = tt; ranged = tt; fitting = refl; standing = refl; chosen = tt }
   command_is session seq name op x there ranged rises key fit more (Decides effect reply) e =
-      let known = open_index s h.sound session x there in
-      let asked = asked_there s op session h.sound fit known (omega arith, omega arith) in
+      let known = open_index s h session x there in
+      let asked = asked_there s op session h fit known (omega arith, omega arith) in
       let is = lawful (machine_cells s.cells) name op session (s.last + 1) effect reply key asked e in
       record {
         fit = (unsigned session known.1, unsigned seq ranged, is.effect_in_range.0, is.reply_in_range.0);
         ranged = (known, (omega arith, ranged), is.effect_in_range.1, is.reply_in_range.1);
-        fitting = owner_there s.cells session (s.last + 1) effect is.owns (open_stands s h.sound session x there) (sym (fits_machine s.cells effect) ∙ is.fits_there);
+        fitting = owner_there s.cells session (s.last + 1) effect is.owns (open_stands s h session x there) (sym (fits_machine s.cells effect) ∙ is.fits_there);
         standing = sym (deletes_machine s.cells effect) ∙ is.deletes;
         chosen = (machine_cells s.cells, name, op, e);
       }
@@ -186,17 +194,15 @@ module _ (d : MachineDecision) (lawful : MachineIsLawful d) (s : Hosted) (h : Is
   body_is (Register timeout) fit more ok time = record { fit = fit; ranged = tt; fitting = refl; standing = refl; chosen = tt }
   body_is (Alive session seq event) fit more ok time =
       let x = time.0 in
-      let known = open_index s h.sound session x time.1 in
+      let known = open_index s h session x time.1 in
       let sound = sound_there session x time.1 in
       let a = time.2.heard in
       let b = sound.seq_in_range in
-      let past = known_event s.last event x (placed_there session x time.1) time.2.known in
-      let low = sound.event_in_range.0 in
-      let high = h.sound.last_in_range in
+      let event_is = known_in_range s.last event x sound h.last_in_range time.2.known in
       record {
         fit = fit;
-        ranged = (known, omega arith, (omega (arith, past.0), omega (arith, past.1)));
-        fitting = open_stands s h.sound session x time.1;
+        ranged = (known, omega arith, event_is);
+        fitting = open_stands s h session x time.1;
         standing = refl;
         chosen = tt;
       }
@@ -236,9 +242,9 @@ step_is_replay d s item h a ok =
     let same = replay_is_after s.last i e.time (hosted_told d s.cells i e.body) e.body s.sessions (omega arith) h.sessions_rise (placed_all s h a) (hosted_timely d s item ok) in
     λ j. record { last = i; now = e.time; sessions = sym same j; cells = after s.cells i e }
 
-pub step_live : (d : MachineDecision) (s : Hosted) (item : Item) → MachineIsLawful d → IsLogSound s → ItemFits item → is_hosted_admitted d s item ≡ true → IsLogSound (hosted_step d s item)
-step_live d s item lawful h fit ok =
-    let is = item_is d lawful s h item fit ok in
+pub step_sound : (d : MachineDecision) (s : Hosted) (item : Item) → MachineIsLawful d → IsLogSound s → ItemFits item → is_hosted_admitted d s item ≡ true → IsLogSound (hosted_step d s item)
+step_sound d s item lawful h fit ok =
+    let is = item_is d lawful s h.sound item fit ok in
     let e = hosted_entry d s item in
     let i = s.last + 1 in
     let sound = entry_sound (hosted_told d) 0 s i e h.sound (omega arith) is.fit is.ranged in
@@ -247,23 +253,23 @@ step_live d s item lawful h fit ok =
       acks_are_past = each_weaker (Placed i) (λ (x : Session). x.acked_event ≤ i) (λ x p. p.acked) _ (placed_after s.last i (omega arith) e.time (hosted_told d s.cells i e.body) e.body s.sessions (hosted_timely d s item ok) (placed_all s h.sound h.acks_are_past));
     }
 
-pub admitted_live : (d : MachineDecision) (s : Hosted) (item : Item) → MachineIsLawful d → IsLogSound s → ItemFits item → is_hosted_admitted d s item ≡ true → IsLogSound (hosted_step d s item) × EntryFits (hosted_entry d s item) × IsInRange (s.last + 1) (hosted_entry d s item)
-admitted_live d s item lawful h fit ok = let is = item_is d lawful s h item fit ok in (step_live d s item lawful h fit ok, is.fit, is.ranged)
+pub admitted_in_range : (d : MachineDecision) (s : Hosted) (item : Item) → MachineIsLawful d → IsSound s → ItemFits item → is_hosted_admitted d s item ≡ true → EntryFits (hosted_entry d s item) × IsInRange (s.last + 1) (hosted_entry d s item)
+admitted_in_range d s item lawful h fit ok = let is = item_is d lawful s h item fit ok in (is.fit, is.ranged)
 
-pub nothing_live : IsLogSound hosted_nothing
-nothing_live = record {
+pub nothing_sound : IsLogSound hosted_nothing
+nothing_sound = record {
   sound = record { last_in_range = omega arith; cells_rise = refl; cells_in_range = λ p h e. absurd (cc); cells_are_past = λ p h e. absurd (cc); sessions_rise = tt; opened = λ id. refl; instances_are_past = λ m cell h e. absurd (cc); apart = λ p q h g o e. absurd (cc); heard = λ id h e. absurd (cc); sessions_are = tt };
   acks_are_past = tt;
 }
 
-pub live_from : (d : MachineDecision) → MachineIsLawful d → (s : Hosted) (items : List Item) → IsLogSound s → ItemsFit items → is_hosted_log_from d s items ≡ true → IsLogSound (hosted_from d s items)
-live_from d lawful s [] h fit ok = h
-live_from d lawful s (item ∷ items) h fit ok =
+pub sound_from : (d : MachineDecision) → MachineIsLawful d → (s : Hosted) (items : List Item) → IsLogSound s → ItemsFit items → is_hosted_log_from d s items ≡ true → IsLogSound (hosted_from d s items)
+sound_from d lawful s [] h fit ok = h
+sound_from d lawful s (item ∷ items) h fit ok =
     let p = and_parts (is_hosted_admitted d s item) (is_hosted_log_from d (hosted_step d s item) items) ok in
-    live_from d lawful (hosted_step d s item) items (step_live d s item lawful h fit.0 p.0) fit.1 p.1
+    sound_from d lawful (hosted_step d s item) items (step_sound d s item lawful h fit.0 p.0) fit.1 p.1
 
-pub logs_live : (d : MachineDecision) (items : List Item) → MachineIsLawful d → ItemsFit items → is_hosted_log d items ≡ true → IsLogSound (hosted_folded d items)
-logs_live d items lawful fit ok = live_from d lawful hosted_nothing items nothing_live fit ok
+pub logs_sound : (d : MachineDecision) (items : List Item) → MachineIsLawful d → ItemsFit items → is_hosted_log d items ≡ true → IsLogSound (hosted_folded d items)
+logs_sound d items lawful fit ok = sound_from d lawful hosted_nothing items nothing_sound fit ok
 
 -- ---- a whole log
 
@@ -277,9 +283,9 @@ pub lawful_from : (d : MachineDecision) → MachineIsLawful d → (s : Hosted) (
 lawful_from d lawful s [] h fit ok = (refl, tt)
 lawful_from d lawful s (item ∷ items) h fit ok =
     let p = and_parts (is_hosted_admitted d s item) (is_hosted_log_from d (hosted_step d s item) items) ok in
-    let is = item_is d lawful s h item fit.0 p.0 in
+    let is = item_is d lawful s h.sound item fit.0 p.0 in
     let e = hosted_entry d s item in
-    let rest = lawful_from d lawful (hosted_step d s item) items (step_live d s item lawful h fit.0 p.0) fit.1 p.1 in
+    let rest = lawful_from d lawful (hosted_step d s item) items (step_sound d s item lawful h fit.0 p.0) fit.1 p.1 in
     (and_from (fits s.cells e.body && closes_standing s.cells e.body) _ (and_from (fits s.cells e.body) (closes_standing s.cells e.body) is.fitting is.standing) rest.0, (is.chosen, rest.1))
 
 pub length-hosted : (d : MachineDecision) (s : Hosted) (items : List Item) → length (hosted_stored_from d s items) ≡ length items
@@ -368,5 +374,5 @@ quiet_within s = (below_kept s.last (kept_of s.sessions)).1
 pub central_of_machines : (d : MachineDecision) (items : List Item) (left : Numbered) (k f : ℕ) → MachineIsLawful d → MachineHasOneOwner d → ItemsFit items → is_hosted_log d items ≡ true → Cleaned left (hosted_stored d items) (hosted_quiet (hosted_folded d items)) k f → (m : ℕ) → k ≤ m → m ≤ length items → cells (up_to m left) ≡ cells (up_to m (numbered (hosted_stored d items)))
 central_of_machines d items left k f lawful one fit log cleaned m low high =
     let n = length-hosted d hosted_nothing items in
-    let r = lawful_from d lawful hosted_nothing items nothing_live fit log in
+    let r = lawful_from d lawful hosted_nothing items nothing_sound fit log in
     central left (hosted_stored d items) (first_owner (numbered (hosted_stored d items))) (hosted_quiet (hosted_folded d items)) k f r.0 (one_owner d one (numbered (hosted_stored d items)) r.1) cleaned m low (omega arith)

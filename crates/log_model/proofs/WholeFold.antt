@@ -23,7 +23,7 @@ use Rattle.log_model.specs.Replay.{Telling, replay_sessions, replay_entry, repla
 use Rattle.log_model.specs.ReplayLaws.{is_orderly_from, TellsFrom, TellsAsPlain, as_folded}
 use Rattle.log_model.proofs.Growth.{EachOf, AllKeep, to_each, below_kept, last_step, length-stored, numbers_above}
 use Rattle.log_model.proofs.OfLogs.{lawful_log, log_owner, one_owner as log_has_one_owner}
-use Rattle.log_model.proofs.OfMachines.{entries_from, first_owner, one_owner, lawful_from, length-hosted, last-hosted, step_live, step_is_replay, nothing_live, logs_live, quiet_within, placed_all}
+use Rattle.log_model.proofs.OfMachines.{entries_from, first_owner, one_owner, lawful_from, length-hosted, last-hosted, step_sound, step_is_replay, nothing_sound, logs_sound, quiet_within, placed_all}
 use Rattle.log_model.proofs.QuietGreatest.{none_up_to, silent_below, quiet_greatest}
 use Rattle.log_model.proofs.Timely.{timely, hosted_timely}
 use Rattle.log_model.proofs.Rising.{Ready, rising_next}
@@ -121,7 +121,7 @@ module _ (d : MachineDecision) (lawful : MachineIsLawful d) where
       let e = hosted_entry d s item in
       let es = entries_from d (hosted_step d s item) items in
       let next : replay_entry (hosted_told d) 0 s (i, e) ≡ hosted_step d s item = sym (step_is_replay d s item h.sound h.acks_are_past p.0) in
-      let rest = whole_hosted (hosted_step d s item) items (step_live d s item lawful h fit.0 p.0) fit.1 p.1 in (
+      let rest = whole_hosted (hosted_step d s item) items (step_sound d s item lawful h fit.0 p.0) fit.1 p.1 in (
         ap (λ st. replay_from (hosted_told d) 0 st es) next ∙ rest.0,
         and_from _ _ (orderly_of s.last i s.sessions e.body (omega arith) (placed_all s h.sound h.acks_are_past) (hosted_timely d s item p.0)) (ap (λ st. is_orderly_from (hosted_told d) st es) next ∙ rest.1),
       )
@@ -147,13 +147,13 @@ hosted_silent s k h l =
 pub gives_hosted_fold : (d : MachineDecision) (items : List Item) (left : Numbered) (k f : ℕ) → MachineIsLawful d → MachineHasOneOwner d → ItemsFit items → is_hosted_log d items ≡ true → Cleaned left (hosted_stored d items) (hosted_quiet (hosted_folded d items)) k f → replayed (hosted_told d) k left ≡ hosted_folded d items
 gives_hosted_fold d items left k f lawful one fit log cleaned =
     let s = hosted_folded d items in
-    let all = whole_hosted d lawful hosted_nothing items nothing_live fit log in
-    let r = lawful_from d lawful hosted_nothing items nothing_live fit log in
+    let all = whole_hosted d lawful hosted_nothing items nothing_sound fit log in
+    let r = lawful_from d lawful hosted_nothing items nothing_sound fit log in
     let n = length-hosted d hosted_nothing items in
     let m = last-hosted d hosted_nothing items in
     let q = cleaned.is_quiet in
     let w = quiet_within s in
-    let live = logs_live d items lawful fit log in
+    let live = logs_sound d items lawful fit log in
     let entries = numbered (hosted_stored d items) in
     let silent : keeps_none_up_to k (replayed (hosted_told d) 0 (numbered (hosted_stored d items))).sessions ≡ true = ap (λ (t : Hosted). keeps_none_up_to k t.sessions) all.0 ∙ hosted_silent s k live.sound.sessions_are q in
     same_replay (hosted_told d) left (hosted_stored d items) (hosted_quiet s) k f (first_owner entries) r.0 all.1 (one_owner d one entries r.1) cleaned (omega arith) silent

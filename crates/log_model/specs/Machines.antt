@@ -24,12 +24,22 @@ CentralLawOfMachines =
     → (m : ℕ) → k ≤ m → m ≤ length items
     → cells (up_to m left) ≡ cells (up_to m (numbered (hosted_stored d items)))
 
+-- the entry of an admitted item is in range, whatever entries the host was made of
+abbrev pub AdmittedIsInRange : Type 0
+AdmittedIsInRange =
+    (d : MachineDecision) (s : Hosted) (item : Item)
+    → MachineIsLawful d
+    → IsSound s
+    → ItemFits item
+    → IsTrue (is_hosted_admitted d s item)
+    → EntryFits (hosted_entry d s item) × IsInRange (s.last + 1) (hosted_entry d s item)
+
 -- a host whose state is sound as that of a log
 pub record IsLogSound (s : Hosted) : Type 0 where
   pub sound : IsSound s
   pub acks_are_past : AcksArePast s
 
--- an admitted item, whose entry is in range, keeps it so
+-- an admitted item keeps it so
 abbrev pub AdmittedKeepsSound : Type 0
 AdmittedKeepsSound =
     (d : MachineDecision) (s : Hosted) (item : Item)
@@ -37,7 +47,7 @@ AdmittedKeepsSound =
     → IsLogSound s
     → ItemFits item
     → IsTrue (is_hosted_admitted d s item)
-    → IsLogSound (hosted_step d s item) × EntryFits (hosted_entry d s item) × IsInRange (s.last + 1) (hosted_entry d s item)
+    → IsLogSound (hosted_step d s item)
 
 -- and so it is after a whole log
 abbrev pub LogsAreSound : Type 0

@@ -4,7 +4,7 @@
 
 ghost use Rattle.log_model.specs.Cleaning.{AppendKeeps, CentralLaw, CentralLawOfLogs, FreshIsCleaned, ReleasedGrows};
 ghost use Rattle.log_model.specs.Kept.{MajorKeeps, MinorKeeps};
-ghost use Rattle.log_model.specs.Machines.{AdmittedKeepsSound, CentralLawOfMachines, HostedLogGrows, HostedLogIsWhole, HostedQuietGrows, LogsAreSound, MarksLawOfMachines};
+ghost use Rattle.log_model.specs.Machines.{AdmittedIsInRange, AdmittedKeepsSound, CentralLawOfMachines, HostedLogGrows, HostedLogIsWhole, HostedQuietGrows, LogsAreSound, MarksLawOfMachines};
 ghost use Rattle.log_model.specs.Parts.{AlivesFollow, MachinePartFollows, PlacesAreParted, SessionPlacesAre};
 ghost use Rattle.log_model.specs.PlainMachine.{PlainMachinesArePlain};
 ghost use Rattle.log_model.specs.Quiet.{QuietGrows, QuietIsGreatest};
@@ -147,7 +147,12 @@ pub fn entries_keep_sound()
     ensures { EntriesKeepSound }
 {}
 
-/// An admitted item's entry is in range, and the state of its log stays sound.
+/// The entry of an admitted item is in range, whatever entries in range the host was made of.
+pub fn admitted_is_in_range()
+    ensures { AdmittedIsInRange }
+{}
+
+/// An admitted item keeps the state of a log sound.
 pub fn admitted_keeps_sound()
     ensures { AdmittedKeepsSound }
 {}

@@ -1,5 +1,5 @@
-use Rattle.log_model.proofs.OfMachines.{logs_live}
+use Rattle.log_model.proofs.OfMachines.{logs_sound}
 use Rattle.log_model.proofs.logs_are_sound.Goals as goal
 
 pub returns : goal.returns
-returns c = λ d items lawful fit ok. logs_live d items lawful fit ok
+returns c = λ d items lawful fit ok. logs_sound d items lawful fit ok
