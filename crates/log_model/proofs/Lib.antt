@@ -22,6 +22,7 @@ pub mod Markings
 pub mod Moves
 pub mod OfLogs
 pub mod OfMachines
+pub mod OneByOne
 pub mod OneSession
 pub mod Parted
 pub mod Parts

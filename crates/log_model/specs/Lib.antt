@@ -11,6 +11,7 @@ pub mod LawfulRows
 pub mod Layout
 pub mod Log
 pub mod Machines
+pub mod OneByOne
 pub mod Parts
 pub mod Plain
 pub mod PlainMachine

@@ -5,6 +5,7 @@
 ghost use Rattle.log_model.specs.Cleaning.{AppendKeeps, CentralLaw, CentralLawOfLogs, FreshIsCleaned, ReleasedGrows};
 ghost use Rattle.log_model.specs.Kept.{MajorKeeps, MinorKeeps};
 ghost use Rattle.log_model.specs.Machines.{AdmittedIsInRange, AdmittedKeepsSound, CentralLawOfMachines, HostedLogGrows, HostedLogIsWhole, HostedQuietGrows, LogsAreSound, MarksLawOfMachines};
+ghost use Rattle.log_model.specs.OneByOne.{ChangesCompose, PushesAreBatches};
 ghost use Rattle.log_model.specs.Parts.{AlivesFollow, MachinePartFollows, PlacesAreParted, SessionPlacesAre};
 ghost use Rattle.log_model.specs.PlainMachine.{PlainMachinesArePlain};
 ghost use Rattle.log_model.specs.Quiet.{QuietGrows, QuietIsGreatest};
@@ -255,4 +256,14 @@ pub fn marks_law_of_machines()
 /// One entry more marks what it releases, and nothing else.
 pub fn marks_follow()
     ensures { MarksFollow }
+{}
+
+/// Where each open session that is told something is given its batch once, one after the other, each has its batch.
+pub fn pushes_are_batches()
+    ensures { PushesAreBatches }
+{}
+
+/// Two changes of one session, one after the other, are one change.
+pub fn changes_compose()
+    ensures { ChangesCompose }
 {}
