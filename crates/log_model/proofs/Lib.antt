@@ -40,6 +40,7 @@ pub mod SessionPlaces
 pub mod Sets
 pub mod Shown
 pub mod ShownCloses
+pub mod ShownResources
 pub mod ShownRows
 pub mod Sounds
 pub mod Tellings

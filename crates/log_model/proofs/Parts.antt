@@ -55,7 +55,7 @@ is_part : (c d : Cells) → T (is_sorted place_cmp c) → T (is_sorted place_cmp
 is_part c d s t same = same_entries place_cmp place_total exact_places (machine_cells c) d (sorted_machine c s) t (λ p. at_machine c p ∙ same p)
 
 -- what stands at a place where some may be put
-put_or_not : (b : Bool) (ws : List (Place × Held)) (u : Cells) (p : Place) → at (cond b (put_all ws u) u) p ≡ or_else (cond b (at ws p) None) (at u p)
+pub put_or_not : (b : Bool) (ws : List (Place × Held)) (u : Cells) (p : Place) → at (cond b (put_all ws u) u) p ≡ or_else (cond b (at ws p) None) (at u p)
 put_or_not true ws u p = at-put_all ws u p
 put_or_not false ws u p = refl
 

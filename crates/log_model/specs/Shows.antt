@@ -13,9 +13,9 @@ use Rattle.host_types.specs.declared.entry.Effect.{Effect}
 use Rattle.host_types.specs.declared.entry.Event.{Event}
 use Rattle.host_types.specs.declared.entry.Op.{Op}
 use Rattle.host_types.specs.declared.entry.Reply.{Reply}
-use Rattle.host_types.specs.Cells.{Held, Cell_at, Place, Cells, at, stands, text_cmp}
+use Rattle.host_types.specs.Cells.{Held, Cell_at, Place, Cells, at, stands, text_cmp, instance_after, without_owner}
 use Rattle.log_model.specs.Cells.{fits_with_owner, after}
-use Rattle.log_model.specs.Plain.{Member, Plain, Value_is, Counter_is, Map_is, Multimap_is, Set_is, Queue_is, Lock_is, Group_is, Topic_is, has_item, keyed, pair_cmp}
+use Rattle.log_model.specs.Plain.{Member, Plain, Value_is, Counter_is, Map_is, Multimap_is, Set_is, Queue_is, Lock_is, Group_is, Topic_is, kind_of, has_item, keyed, pair_cmp}
 use Rattle.log_model.specs.Rows.{is_waiter, Does, row, without_session}
 
 -- what the cells show at a place
@@ -95,3 +95,22 @@ CloseShows =
 -- whatever leaves the cells of an instance leaves what they show
 abbrev pub OthersShow : Type 0
 OthersShow = (c d : Cells) (m : ℕ) (plain : Plain) → ((cell : Cell) → at d (Cell_at m cell) ≡ at c (Cell_at m cell)) → Shows m c plain → Shows m d plain
+
+-- ---- the same for one resource by itself, whose own instance counts as named
+
+-- after what a row decides, its cells show what the row makes of it
+abbrev pub ResourceRowsShow : Type 0
+ResourceRowsShow =
+    (c : Cells) (m i session : ℕ) (name : List ℕ) (plain next : Plain) (op : Op) (effect : Effect) (reply : Reply) (told : List (ℕ × Event))
+    → Shows m c plain
+    → IsFresh m i c
+    → row (record { name = name; instance = m; session = session; index = i }) plain op ≡ Does effect reply next told
+    → Shows m (instance_after (kind_of plain) m c i effect) next
+
+-- without those of a session, they show it without the session
+abbrev pub ResourceClosesShow : Type 0
+ResourceClosesShow =
+    (c : Cells) (m session : ℕ) (name : List ℕ) (plain : Plain)
+    → Shows m c plain
+    → OwnersSuit m c plain
+    → Shows m (without_owner session c) (without_session name session plain).0

@@ -13,7 +13,7 @@ ghost use Rattle.log_model.specs.Released.{MarksFollow, MarksLaw};
 ghost use Rattle.log_model.specs.ReplayLaws.{AdmittedIsReplayed, ReplayGivesFold, ReplayGivesHostedFold, ReplayLaw};
 ghost use Rattle.log_model.specs.Serving.{BatchesAreLinked, BatchesGrow, ClientTakesAll, ClientTakesRun, KeepsTheRest};
 ghost use Rattle.log_model.specs.Sessions.{SessionsLaw};
-ghost use Rattle.log_model.specs.Shows.{CloseShows, OthersShow, RowsShow};
+ghost use Rattle.log_model.specs.Shows.{CloseShows, OthersShow, ResourceClosesShow, ResourceRowsShow, RowsShow};
 ghost use Rattle.log_model.specs.Sound.{EntriesKeepSound, NextIndexIsFree};
 ghost use Rattle.log_model.specs.Telling.{CellsShow, CellsTell, ReplayOfLogs};
 
@@ -266,4 +266,14 @@ pub fn pushes_are_batches()
 /// Two changes of one session, one after the other, are one change.
 pub fn changes_compose()
     ensures { ChangesCompose }
+{}
+
+/// After what a row decides, the cells of a resource by itself show what the row makes of it, for each of the nine kinds.
+pub fn resource_rows_show()
+    ensures { ResourceRowsShow }
+{}
+
+/// Without those of a session, the cells of a resource by itself show it without the session.
+pub fn resource_closes_show()
+    ensures { ResourceClosesShow }
 {}
