@@ -18,7 +18,7 @@ use Rattle.log_model.specs.Step.{step, fold_from, folded}
 use Rattle.log_model.specs.Stored.{entry_with, decided_body, asked_body, entry_of, stored_from, stored, is_admission, is_admitted, is_log_from, is_log}
 use Rattle.log_model.specs.Batches.{told, told_ask, told_outcome}
 use Rattle.log_model.specs.Quiet.{kept_of, greatest_below}
-use Rattle.log_model.specs.Hosted.{hosted_nothing, machine_cells, refused_choice, hosted_declined, hosted_admits, hosted_expires, is_hosted_admitted, choice_body, hosted_entry, hosted_told, sessions_after, hosted_after, hosted_step, hosted_from, hosted_folded, hosted_stored_from, is_hosted_log_from, is_hosted_log}
+use Rattle.log_model.specs.Hosted.{Hosted, hosted_nothing, machine_cells, refused_choice, hosted_declined, hosted_admits, hosted_expires, is_hosted_admitted, choice_body, hosted_entry, hosted_told, sessions_after, hosted_after, hosted_step, hosted_from, hosted_folded, hosted_stored_from, is_hosted_log_from, is_hosted_log}
 use Rattle.log_model.specs.Telling.{ShowsState}
 use Rattle.log_model.specs.Shows.{Shows}
 use Rattle.log_model.specs.PlainMachine.{choice_of, IsPlainMachine, IsAsPlain}
@@ -122,6 +122,9 @@ module _ (d : MachineDecision) (plain : IsPlainMachine d) where
             },
       )
 
+  shown_in : (st : Hosted) (s : State) (c : Cells) → st ≡ seen s c → ShowsState (machine_cells c) s → ShowsState (machine_cells st.cells) s
+  shown_in st s c same h = subst (λ (z : Hosted). ShowsState (machine_cells z.cells) s) (sym same) h
+
   pub plain_machine : (items : List Item) → (is_hosted_log d items ≡ is_log items) × (is_log items ≡ true → IsAsPlain d items)
   plain_machine items =
       let r = plain_from nothing_yet [] items whole_nothing in (
@@ -136,6 +139,8 @@ module _ (d : MachineDecision) (plain : IsPlainMachine d) where
               same_entries = k.entries_same;
               same_admission = λ o. ap (λ st. hosted_admits d st o) same ∙ admits_same s c k.shown o;
               same_expiry = λ time. ap (λ st. hosted_expires st time) same;
+              shows = shown_in (hosted_folded d items) s c same k.shown;
+              same_look = λ name op looking. plain.looks (folded items) (machine_cells (hosted_folded d items).cells) name op looking (shown_in (hosted_folded d items) s c same k.shown);
               same_quiet = (let n = last-hosted d hosted_nothing items in
                   let last : (hosted_folded d items).last ≡ length items = omega arith in
                   (λ j. greatest_below (last j) (kept_of (same j).sessions)));

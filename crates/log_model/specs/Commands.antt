@@ -1,5 +1,5 @@
 -- What a command does, by the name that it asks: what is stored and answered, and the names and events that come of it.
-use Rattle.std.specs.Prelude.{ℕ, ◌+◌, cond, not, nat_le, ◌==◌, List, [], ◌∷◌, ◌++◌, map, length, Option, Some, None}
+use Rattle.std.specs.Prelude.{ℕ, ◌+◌, cond, not, nat_le, ◌==◌, List, [], ◌∷◌, ◌++◌, map, length, Option, Some, None, Result, Ok, Err}
 use Rattle.std.specs.List.{filter}
 use Rattle.host_types.specs.declared.entry.Kind.{Kind}
 use Rattle.host_types.specs.declared.entry.Kind.TheVariants.{Value, Counter, Map, Multimap, Set, Queue, Lock, Group, Topic}
@@ -62,3 +62,12 @@ outcome_at names (Some n) name session i op = outcome_there names n session i op
 -- what the operation on this name does in this state, under the next index
 abbrev pub outcome : State → List ℕ → ℕ → Op → Outcome
 outcome s name session op = outcome_at s.names (named name s) name session (s.last + 1) op
+
+-- what an operation that only looks shows of a name
+abbrev pub shown_by : Outcome → Result Reply Refusal
+shown_by (Decided effect reply names told) = Ok reply
+shown_by (Declined refusal) = Err refusal
+
+-- it doesn't matter who looks
+abbrev pub plain_look : State → List ℕ → Op → Result Reply Refusal
+plain_look s name op = shown_by (outcome s name 0 op)

@@ -233,7 +233,7 @@ pub fn replay_of_logs()
     ensures { ReplayOfLogs }
 {}
 
-/// A host over a machine that decides and tells as the rows do takes what the plain state takes, and is as the plain state.
+/// A host over a machine that decides, shows and tells as the rows do takes what the plain state takes, and is as the plain state.
 pub fn plain_machines_are_plain()
     ensures { PlainMachinesArePlain }
 {}
