@@ -1,0 +1,13 @@
+use Rattle.std.proofs.Common.{◌∙◌, ap, sym, Some, None}
+use Rattle.std.specs.Option.{option_map, option_copied}
+use Rattle.session_table.specs.Table.{view_of}
+use Rattle.session_table.proofs.Tables.{read_in}
+use Rattle.session_table.proofs.sessions.Sessions.find.Goals as goal
+
+pub returns-in-Some : goal.returns-in-Some
+returns-in-Some c =
+    let r = read_in c.self.inside c.args.self.now c.args.id (Some c.in-Some.session.now) c.self.invariant c.self.view_is (sym (ap option_copied c.in-Some.is) ∙ c.session_in.ensures) in ap Some c.view.ensures ∙ (λ i. option_map (view_of (sym r.1 i)) (sym r.0 i))
+
+pub returns-in-None : goal.returns-in-None
+returns-in-None c =
+    let r = read_in c.self.inside c.args.self.now c.args.id (None) c.self.invariant c.self.view_is (sym (ap option_copied c.in-None.is) ∙ c.session_in.ensures) in (λ i. option_map (view_of (sym r.1 i)) (sym r.0 i))

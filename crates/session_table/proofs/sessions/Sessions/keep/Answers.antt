@@ -1,0 +1,45 @@
+use Rattle.std.proofs.Common.{◌∙◌, ap, subst, sym, arith}
+use Rattle.log_model.specs.Plain.{Session}
+use Rattle.log_model.specs.Step.{changed, with_reply}
+use Rattle.session_table.specs.Table.{Table}
+use Rattle.session_table.proofs.Tables.{changed_in, in_order, open_in, shows_in, slot_filled, replies_beside, batches_beside}
+use Rattle.session_table.specs.Asked.{NewerReply}
+use Rattle.session_table.proofs.sessions.Sessions.keep.Goals as goal
+
+pub open_slot-slot-requires-clause-open : goal.open_slot-slot-requires-clause-open
+open_slot-slot-requires-clause-open c = open_in c.self.inside c.args.self.now c.args.id c.self.invariant c.self.view_is c.requires.open
+
+pub index_mut-requires : goal.index_mut-requires
+index_mut-requires c = slot_filled c.self.inside.order.items c.self.inside.slots c.args.id c.open_slot-slot.result c.self.invariant.seated c.open_slot-slot.ensures
+
+pub keep-requires-clause-prepared : goal.keep-requires-clause-prepared
+keep-requires-clause-prepared c =
+    omega (arith, c.requires.prepared, (shows_in c.self.inside c.args.self.now c.args.id c.open_slot-slot.result c.index_mut.result.now c.self.invariant c.self.view_is c.open_slot-slot.ensures c.index_mut.ensures.value).2)
+
+pub keep-requires-clause-seq : goal.keep-requires-clause-seq
+keep-requires-clause-seq c =
+    (subst (NewerReply c.args.seq c.args.index) (shows_in c.self.inside c.args.self.now c.args.id c.open_slot-slot.result c.index_mut.result.now c.self.invariant c.self.view_is c.open_slot-slot.ensures c.index_mut.ensures.value).0 c.requires.newer).0
+
+pub keep-requires-clause-index : goal.keep-requires-clause-index
+keep-requires-clause-index c =
+    (subst (NewerReply c.args.seq c.args.index) (shows_in c.self.inside c.args.self.now c.args.id c.open_slot-slot.result c.index_mut.result.now c.self.invariant c.self.view_is c.open_slot-slot.ensures c.index_mut.ensures.value).0 c.requires.newer).1
+
+pub invariant_of-self : goal.invariant_of-self
+invariant_of-self c =
+    in_order c.self.inside c.args.id c.open_slot-slot.result c.index_mut.result.now c.keep.new.self c.self.invariant (changed_in c.self.inside c.args.id c.open_slot-slot.result c.index_mut.result.now c.keep.new.self c.self.invariant c.open_slot-slot.ensures c.index_mut.ensures.value (ap (λ (x : Session). x.id) c.keep.ensures.session))
+
+pub returns-clause-sessions : goal.returns-clause-sessions
+returns-clause-sessions c =
+    (changed_in c.self.inside c.args.id c.open_slot-slot.result c.index_mut.result.now c.keep.new.self c.self.invariant c.open_slot-slot.ensures c.index_mut.ensures.value (ap (λ (x : Session). x.id) c.keep.ensures.session)).sessions (with_reply c.args.seq c.args.index c.args.reply) (sym c.keep.ensures.session) ∙ ap (λ (t : Table). changed c.args.id (with_reply c.args.seq c.args.index c.args.reply) t.sessions) c.self.view_is
+
+pub returns-clause-beside : goal.returns-clause-beside
+returns-clause-beside c =
+    (changed_in c.self.inside c.args.id c.open_slot-slot.result c.index_mut.result.now c.keep.new.self c.self.invariant c.open_slot-slot.ensures c.index_mut.ensures.value (ap (λ (x : Session). x.id) c.keep.ensures.session)).beside_stays c.keep.ensures.confirmed ∙ ap (λ (t : Table). t.beside) c.self.view_is
+
+pub returns-clause-replies : goal.returns-clause-replies
+returns-clause-replies c =
+    λ other ne. replies_beside c.self.inside c.args.self.now c.args.id c.open_slot-slot.result c.index_mut.result.now c.keep.new.self (changed_in c.self.inside c.args.id c.open_slot-slot.result c.index_mut.result.now c.keep.new.self c.self.invariant c.open_slot-slot.ensures c.index_mut.ensures.value (ap (λ (x : Session). x.id) c.keep.ensures.session)) c.self.view_is other (λ e. absurd (ne e))
+
+pub returns-clause-batches : goal.returns-clause-batches
+returns-clause-batches c =
+    λ other. batches_beside c.self.inside c.args.self.now c.args.id c.open_slot-slot.result c.index_mut.result.now c.keep.new.self (changed_in c.self.inside c.args.id c.open_slot-slot.result c.index_mut.result.now c.keep.new.self c.self.invariant c.open_slot-slot.ensures c.index_mut.ensures.value (ap (λ (x : Session). x.id) c.keep.ensures.session)) c.self.view_is other (λ e. omega (arith, c.keep.ensures.batch_room))

@@ -1,0 +1,9 @@
+pub mod Replies
+pub mod RepliesInside
+pub mod Kept
+pub mod KeptInside
+pub mod Table
+pub mod Asked
+pub mod Places
+pub mod Rows
+pub mod Inside
