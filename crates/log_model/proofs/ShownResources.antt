@@ -21,7 +21,8 @@ use Rattle.log_model.proofs.Places.{place_total, exact_places}
 use Rattle.log_model.proofs.Lookups.{tied_true, any_from_found}
 use Rattle.log_model.proofs.Changes.{or_else, at-uncovered}
 use Rattle.log_model.proofs.Parts.{put_or_not, at-without_owner}
-use Rattle.log_model.proofs.RowEffects.{OwnerSuits, Suits, RowSuits, row_suits}
+use Rattle.log_model.specs.LawfulRows.{OwnerSuits}
+use Rattle.log_model.proofs.RowEffects.{Suits, RowSuits, row_suits}
 use Rattle.log_model.proofs.Tracks.{other_place}
 use Rattle.log_model.proofs.ShownRows.{rows_shown}
 use Rattle.log_model.proofs.ShownCloses.{others_shown, closes_shown}
