@@ -13,26 +13,26 @@ use Rattle.log_model.specs.Serving.{chained, after_event, Linked}
 use Rattle.log_model.proofs.Growth.{last_step}
 use Rattle.log_model.proofs.Moves.{Move, Grows, Acks, Gone, Start, Opens, Shut, moves, starts}
 
-abbrev RunFrom : ℕ → List Kept_batch → Type 0
+abbrev pub RunFrom : ℕ → List Kept_batch → Type 0
 RunFrom a [] = Unit {0}
 RunFrom a (b ∷ bs) = (a < b.index) × RunFrom b.index bs
 
-abbrev last_of : ℕ → List Kept_batch → ℕ
+abbrev pub last_of : ℕ → List Kept_batch → ℕ
 last_of a [] = a
 last_of a (b ∷ bs) = last_of b.index bs
 
 -- one more batch
-grown_list : (a i : ℕ) (bs : List Kept_batch) (es : List Event) (R : ℕ → List Batch) → chained a (bs ++ one_batch i es) ++ R (last_of a (bs ++ one_batch i es)) ≡ chained a bs ++ batch_list i (last_of a bs) es (R (batch_index i (last_of a bs) es))
+pub grown_list : (a i : ℕ) (bs : List Kept_batch) (es : List Event) (R : ℕ → List Batch) → chained a (bs ++ one_batch i es) ++ R (last_of a (bs ++ one_batch i es)) ≡ chained a bs ++ batch_list i (last_of a bs) es (R (batch_index i (last_of a bs) es))
 grown_list a i [] [] R = refl
 grown_list a i [] (e ∷ es) R = refl
 grown_list a i (b ∷ bs) es R = ap (λ l. record { index = b.index; previous = a; events = b.events } ∷ l) (grown_list b.index i bs es R)
 
-grown_run : (a i : ℕ) (bs : List Kept_batch) (es : List Event) → RunFrom a bs → last_of a bs < i → RunFrom a (bs ++ one_batch i es)
+pub grown_run : (a i : ℕ) (bs : List Kept_batch) (es : List Event) → RunFrom a bs → last_of a bs < i → RunFrom a (bs ++ one_batch i es)
 grown_run a i [] [] r l = tt
 grown_run a i [] (e ∷ es) r l = (l, tt)
 grown_run a i (b ∷ bs) es r l = (r.0, grown_run b.index i bs es r.1 l)
 
-grown_last : (a i : ℕ) (bs : List Kept_batch) (es : List Event) → last_of a bs < i → last_of a (bs ++ one_batch i es) ≤ i
+pub grown_last : (a i : ℕ) (bs : List Kept_batch) (es : List Event) → last_of a bs < i → last_of a (bs ++ one_batch i es) ≤ i
 grown_last a i [] [] l = omega arith
 grown_last a i [] (e ∷ es) l = omega arith
 grown_last a i (b ∷ bs) es l = grown_last b.index i bs es l
@@ -60,18 +60,18 @@ after_twice e f (b ∷ bs) l =
     ] refl
 
 -- what an acknowledgement leaves
-record CutAt (a event : ℕ) (bs : List Kept_batch) : Type 0 where
-  list : chained event (filter (λ b. nat_lt event b.index) bs) ≡ after_event event (chained a bs)
-  last : last_of event (filter (λ b. nat_lt event b.index) bs) ≡ last_of a bs
-  run : RunFrom event (filter (λ b. nat_lt event b.index) bs)
-  above : a ≤ event
+pub record CutAt (a event : ℕ) (bs : List Kept_batch) : Type 0 where
+  pub list : chained event (filter (λ b. nat_lt event b.index) bs) ≡ after_event event (chained a bs)
+  pub last : last_of event (filter (λ b. nat_lt event b.index) bs) ≡ last_of a bs
+  pub run : RunFrom event (filter (λ b. nat_lt event b.index) bs)
+  pub above : a ≤ event
 
 cut_here : (a : ℕ) (bs : List Kept_batch) → RunFrom a bs → CutAt a a bs
 cut_here a bs r =
     let same = all_kept a a bs (omega arith) r in
     record { list = ap (chained a) same ∙ sym (all_after a a bs (omega arith) r); last = ap (last_of a) same; run = subst (RunFrom a) (sym same) r; above = omega arith }
 
-cut_at : (a event : ℕ) (bs : List Kept_batch) → RunFrom a bs → (event == a || list_any (λ b. b.index == event) bs) ≡ true → CutAt a event bs
+pub cut_at : (a event : ℕ) (bs : List Kept_batch) → RunFrom a bs → (event == a || list_any (λ b. b.index == event) bs) ≡ true → CutAt a event bs
 cut_at a event bs r h =
     elim (event == a) as (λ q. (event == a) ≡ q → (q || list_any (λ b. b.index == event) bs) ≡ true → CutAt a event bs) [
       | true ↦ λ t _. subst (λ n. CutAt a n bs) (sym (eqb-true event a t)) (cut_here a bs r)
@@ -118,13 +118,13 @@ cut_at a event bs r h =
               | false ↦ λ t h. above (deeper b.index bs r.1 h)
             ] refl h
 
-record Chain (n : ℕ) (x : Session) : Type 0 where
-  run : RunFrom x.acked_event x.batches
-  top : last_of x.acked_event x.batches ≤ n
+pub record Chain (n : ℕ) (x : Session) : Type 0 where
+  pub run : RunFrom x.acked_event x.batches
+  pub top : last_of x.acked_event x.batches ≤ n
 
 module _ (id : ℕ) where
   -- a session that was closed stays so
-  closed_stays : (s : State) (items : List Item) → id ≤ s.last → session_of id s ≡ None → session_of id (fold_from s items) ≡ None
+  pub closed_stays : (s : State) (items : List Item) → id ≤ s.last → session_of id s ≡ None → session_of id (fold_from s items) ≡ None
   closed_stays s [] l e = e
   closed_stays s (item ∷ items) l e = go (starts s id item e) (let n = last_step s item in closed_stays (step s item) items (omega arith))
     where
@@ -132,7 +132,7 @@ module _ (id : ℕ) where
       go (Opens y o is none event batches) later = absurd (omega arith)
       go (Shut o none) later = later o
 
-  abbrev rest : State → List Item → Session → List Batch
+  abbrev pub rest : State → List Item → Session → List Batch
   rest s items x = chained x.acked_event x.batches ++ batches_from s items id (last_of x.acked_event x.batches)
 
   abbrev Keeps : State → List Item → Session → Session → Type 0

@@ -28,6 +28,7 @@ pub mod Parted
 pub mod Parts
 pub mod Places
 pub mod PlainMachines
+pub mod Points
 pub mod QuietGreatest
 pub mod ReadOff
 pub mod ReplayExamples

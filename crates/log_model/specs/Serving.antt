@@ -61,6 +61,14 @@ AreOf (b ∷ offers) bs = IsOneOf b bs × AreOf offers bs
 abbrev pub is_point : ℕ → List Batch → ℕ → Bool
 is_point id bs start = start == id || list_any (λ b. b.index == start) bs
 
+-- what an open session acknowledged is such a start
+abbrev pub AcksArePoints : Type 0
+AcksArePoints =
+    (items : List Item) (id : ℕ) (x : Session)
+    → IsTrue (is_log items)
+    → session_of id (folded items) ≡ Some x
+    → IsTrue (is_point id (batches items id) x.acked_event)
+
 -- of whatever batches of its session, in whatever order and however often they are offered, a client takes an unbroken run from its start, each once
 abbrev pub ClientTakesRun : Type 0
 ClientTakesRun =

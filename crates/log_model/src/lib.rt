@@ -11,7 +11,7 @@ ghost use Rattle.log_model.specs.PlainMachine.{PlainMachinesArePlain};
 ghost use Rattle.log_model.specs.Quiet.{QuietGrows, QuietIsGreatest};
 ghost use Rattle.log_model.specs.Released.{MarksFollow, MarksLaw};
 ghost use Rattle.log_model.specs.ReplayLaws.{AdmittedIsReplayed, ReplayGivesFold, ReplayGivesHostedFold, ReplayLaw};
-ghost use Rattle.log_model.specs.Serving.{BatchesAreLinked, BatchesGrow, ClientTakesAll, ClientTakesRun, KeepsTheRest};
+ghost use Rattle.log_model.specs.Serving.{AcksArePoints, BatchesAreLinked, BatchesGrow, ClientTakesAll, ClientTakesRun, KeepsTheRest};
 ghost use Rattle.log_model.specs.Sessions.{SessionsLaw};
 ghost use Rattle.log_model.specs.Shows.{CloseShows, OthersShow, ResourceClosesShow, ResourceRowsShow, RowsShow};
 ghost use Rattle.log_model.specs.Sound.{EntriesKeepSound, NextIndexIsFree};
@@ -276,4 +276,9 @@ pub fn resource_rows_show()
 /// Without those of a session, the cells of a resource by itself show it without the session.
 pub fn resource_closes_show()
     ensures { ResourceClosesShow }
+{}
+
+/// What an open session acknowledged is its id or the index of one of its batches, so that a client may start there.
+pub fn acks_are_points()
+    ensures { AcksArePoints }
 {}
