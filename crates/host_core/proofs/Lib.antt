@@ -1,0 +1,5 @@
+pub mod Keeping
+pub mod Meeting
+pub mod Parts
+pub mod Standing
+pub mod Tables

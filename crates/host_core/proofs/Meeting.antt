@@ -1,0 +1,317 @@
+-- What follows where a commit stands before a host's machine and sessions.
+use Rattle.std.proofs.Common.{lt-ltb, ltb-true, nat_le, nat_lt, max, ◌≡◌, ℕ, ◌+◌, ◌<◌, ◌≤◌, Bool, true, false, cond, not, ◌&&◌, ◌==◌, T, List, [], ◌∷◌, ◌++◌, map, Option, Some, None, is_some, refl, sym, ap, subst, ◌∙◌, arith}
+use Rattle.std.proofs.lemmas.Bool.{false_from_ne_true, ltb-false}
+use Rattle.std.specs.Option.{option_map}
+use Rattle.std.specs.List.{filter, find, list_any, AllByRecursion}
+use Rattle.std.specs.FinMap.{is_sorted}
+use Rattle.host_types.specs.declared.entry.Body.{Body}
+use Rattle.host_types.specs.declared.entry.Body.TheVariants.{Register, Alive, Close, Command}
+use Rattle.host_types.specs.declared.entry.Effect.{Effect}
+use Rattle.host_types.specs.declared.entry.Effect.TheVariants.{Nothing, Create, Delete, Put, Drop, Wipe, WipeKey, Tell}
+use Rattle.host_types.specs.declared.entry.Reply.{Reply}
+use Rattle.host_types.specs.Cells.{Register_at, marked, place_cmp, Cells, at, stands, places_of, is_in_instance, without_owner}
+use Rattle.commit_lending.specs.Lent.{Lent, tokens, one_of}
+use Rattle.machine.specs.Release.{AreOut, CreatesAnew}
+use Rattle.event_batches.specs.Rising.{AreBelow}
+use Rattle.log_model.specs.Plain.{Kept_batch, Kept_reply, Session, session_in}
+use Rattle.log_model.specs.Hosted.{Hosted}
+use Rattle.log_model.specs.Parts.{machine_after, put_owner_stands}
+use Rattle.log_model.specs.Sound.{IsSessionSound, IsPast, IsFree, Rises}
+use Rattle.log_model.specs.Step.{changed, new_session, with_reply}
+use Rattle.log_model.specs.Replay.{noted, pushed, replay_alive, replay_batches, replay_reply}
+use Rattle.log_model.proofs.Admitted.{changed_same}
+use Rattle.log_model.proofs.Free.{index_free}
+use Rattle.log_model.proofs.Lookups.{T_from}
+use Rattle.log_model.proofs.OneSession.{open_is}
+use Rattle.log_model.specs.Cells.{after}
+use Rattle.log_model.proofs.Sounds.{each_weaker, each_found}
+use Rattle.session_table.specs.declared.view.SessionView.{SessionView}
+use Rattle.session_table.specs.Asked.{NewerReply}
+use Rattle.session_table.specs.Table.{Beside, Table, ids, beside_changed, beside_alive, alive_at, confirmed_of, view_of, view_at, session_at}
+use Rattle.session_table.specs.Places.{cells_of, table_cells}
+use Rattle.host_core.specs.Entering.{AreKeptBefore, Entered, IsOut, Meets, has_owner}
+use Rattle.host_core.proofs.Parts.{at_sessions}
+use Rattle.host_core.proofs.Standing.{places-append, commit_out, machine_out, table_out}
+use Rattle.host_core.proofs.Tables.{AreRising, AreBefore, rising, each_stands, stands_found, found_stands, registered, heard_of, not_heard, ended, not_ended}
+
+module _ (index : ℕ) (machine : Cells) (table : Table) (lent : Lent) (m : Meets index machine table lent) where
+  abbrev all : Cells
+  all = machine ++ table_cells table
+
+  abbrev s : Hosted
+  s = record { last = m.last; now = m.time; sessions = table.sessions; cells = all }
+
+  free : IsFree s index
+  free = index_free s index m.sound m.behind
+
+  -- the commit holds no place
+  none_of_machine : places_of machine index ≡ 0
+  none_of_machine = let sum = places-append machine (table_cells table) index in let none = free.unheld in omega (arith, sum, none)
+
+  pub none_of_table : places_of (table_cells table) index ≡ 0
+  none_of_table = let sum = places-append machine (table_cells table) index in let none = free.unheld in omega (arith, sum, none)
+
+  pub none_held : places_of machine index ≡ 0
+  none_held = none_of_machine
+
+  pub is_lent : tokens lent index ≡ 1
+  is_lent = commit_out index machine table lent m.out none_of_machine none_of_table
+
+  pub machine_is_out : AreOut (places_of machine) lent
+  machine_is_out = machine_out index machine table lent m.out
+
+  pub table_is_out : AreOut (places_of (table_cells table)) lent
+  table_is_out = table_out index machine table lent m.out
+
+  -- no cell of a new instance stands
+  pub anew : (f : Effect) → CreatesAnew machine index f
+  anew (Create name kind) = (let low = m.behind in omega (arith, low), ap (list_any (is_in_instance index)) (sym m.machine_is) ∙ free.empty)
+  anew Nothing = tt
+  anew (Delete name instance) = tt
+  anew (Put instance cell content owner) = tt
+  anew (Drop instance cell) = tt
+  anew (Wipe instance) = tt
+  anew (WipeKey instance key) = tt
+  anew (Tell instance word) = tt
+
+  -- who is open has its register place
+  stands_open : (id : ℕ) → stands all (Register_at id) ≡ is_some (session_in id table.sessions)
+  stands_open id = ap is_some (m.sound.opened id) ∙ elim (is_some (session_in id table.sessions)) as (λ b. is_some (cond b (Some (marked id)) None) ≡ b) [ true ↦ refl | false ↦ refl ]
+
+  pub owner_is : (f : Effect) → has_owner table.sessions f ≡ put_owner_stands all f
+  owner_is (Put instance cell content None) = refl
+  owner_is (Put instance cell content (Some owner)) = sym (stands_open owner)
+  owner_is Nothing = refl
+  owner_is (Create name kind) = refl
+  owner_is (Delete name instance) = refl
+  owner_is (Drop instance cell) = refl
+  owner_is (Wipe instance) = refl
+  owner_is (WipeKey instance key) = refl
+  owner_is (Tell instance word) = refl
+
+  at_table : (id : ℕ) → at (table_cells table) (Register_at id) ≡ at all (Register_at id)
+  at_table id = ap (λ (c : Cells). at c (Register_at id)) (sym m.table_is) ∙ at_sessions all (Register_at id)
+
+  pub table_stands : (id : ℕ) → stands (table_cells table) (Register_at id) ≡ is_some (session_in id table.sessions)
+  table_stands id = ap is_some (at_table id) ∙ stands_open id
+
+  -- the sessions are behind no entry of the log, and neither are their replies
+  pub ids_are_below : AreBelow index (ids table)
+  ids_are_below = go table.sessions m.sound.sessions_are
+    where
+      go : (ss : List Session) → AllByRecursion (IsSessionSound m.last) ss → AreBelow index (map (λ (x : Session). x.id) ss)
+      go [] a = tt
+      go (x ∷ ss) a = (let past = a.0.id.1 in let low = m.behind in omega (arith, past, low), go ss a.1)
+
+  pub kept_before : AreKeptBefore index table.sessions
+  kept_before = each_weaker (IsSessionSound m.last) (λ (x : Session). AreBelow index (map (λ (r : Kept_reply). r.index) x.replies)) (λ x a. go x.replies a.replies) table.sessions m.sound.sessions_are
+    where
+      go : (rs : List Kept_reply) → AllByRecursion (λ (r : Kept_reply). IsPast m.last r.index) rs → AreBelow index (map (λ (r : Kept_reply). r.index) rs)
+      go [] a = tt
+      go (r ∷ rs) a = (let past = a.0.1 in let low = m.behind in omega (arith, past, low), go rs a.1)
+
+  -- ---- the places of the sessions
+
+  sorted : T (is_sorted place_cmp all)
+  sorted = T_from _ m.sound.cells_rise
+
+  pub besides_rise : AreRising table.beside
+  besides_rise = rising machine table.beside sorted
+
+  pub besides_are_before : AreBefore index table.beside
+  besides_are_before = each_weaker (λ (b : Beside). stands (table_cells table) (Register_at b.id) ≡ true) (λ (b : Beside). b.id < index) (λ b there. one b.id (sym (table_stands b.id) ∙ there)) table.beside (each_stands table.beside)
+    where
+      one : (id : ℕ) → is_some (session_in id table.sessions) ≡ true → id < index
+      one id there = go (session_in id table.sessions) refl there
+        where
+          go : (o : Option Session) → session_in id table.sessions ≡ o → is_some o ≡ true → id < index
+          go None f e = absurd (cc)
+          go (Some x) f e =
+              let past = (each_found (IsSessionSound m.last) table.sessions m.sound.sessions_are id x f).id.1 in
+              let low = m.behind in
+              let same = open_is id table.sessions x f in
+              omega (arith, past, low, same)
+
+  -- a keep-alive of an open session, and one of another
+  pub alive_follows : (id time seq event : ℕ) → is_some (session_in id table.sessions) ≡ true → cells_of (beside_changed id (beside_alive index event) table.beside) ≡ after (table_cells table) index (record { time = time; body = Alive id seq event })
+  alive_follows id time seq event there =
+      let placed = table_stands id ∙ there in
+      heard_of id index event table.beside time seq besides_rise (stands_found id table.beside placed) placed
+
+  pub alive_stays : (id time seq event : ℕ) → session_in id table.sessions ≡ None → table_cells table ≡ after (table_cells table) index (record { time = time; body = Alive id seq event })
+  alive_stays id time seq event none = not_heard (table_cells table) index time id seq event (table_stands id ∙ ap is_some none)
+
+  -- the end of a session that isn't open
+  pub end_stays : (id time : ℕ) (expired : Bool) → session_in id table.sessions ≡ None → table_cells table ≡ after (table_cells table) index (record { time = time; body = Close id expired })
+  end_stays id time expired none =
+      ap cells_of (sym (not_ended table.beside id (false_from_ne_true (is_some (find (λ (b : Beside). b.id == id) table.beside)) (λ e.
+      let placed = found_stands id table.beside e in
+      let shut = table_stands id ∙ ap is_some none in
+      absurd (cc)))))
+      ∙ ended id expired table.beside index time
+
+-- ---- one session
+
+-- nobody is changed where the session isn't open
+pub changed_none : (id : ℕ) (f : Session → Session) (ss : List Session) → session_in id ss ≡ None → changed id f ss ≡ ss
+changed_none id f [] e = refl
+changed_none id f (x ∷ ss) e =
+    elim (x.id == id) as (λ b. cond b (Some x) (session_in id ss) ≡ None → cond b (f x) x ∷ changed id f ss ≡ x ∷ ss) [
+      | true ↦ λ e. absurd (cc)
+      | false ↦ λ e. ap (λ (r : List Session). x ∷ r) (changed_none id f ss e)
+    ] e
+
+-- and nobody goes
+pub without_none : (id : ℕ) (ss : List Session) → session_in id ss ≡ None → filter (λ (x : Session). not (x.id == id)) ss ≡ ss
+without_none id [] e = refl
+without_none id (x ∷ ss) e =
+    elim (x.id == id) as (λ b. cond b (Some x) (session_in id ss) ≡ None → cond (not b) (x ∷ filter (λ (y : Session). not (y.id == id)) ss) (filter (λ (y : Session). not (y.id == id)) ss) ≡ x ∷ ss) [
+      | true ↦ λ e. absurd (cc)
+      | false ↦ λ e. ap (λ (r : List Session). x ∷ r) (without_none id ss e)
+    ] e
+
+-- ---- what the table tells of a session
+
+pub found_none : (id : ℕ) (t : Table) → None ≡ view_at id t → session_in id t.sessions ≡ None
+found_none id t e = elim (session_in id t.sessions) as (λ o. None ≡ option_map (view_of (confirmed_of id t)) o → o ≡ None) [ None ↦ λ q. refl | Some x ↦ λ q. absurd (cc) ] e
+
+record IsFound (id : ℕ) (t : Table) (view : SessionView) : Type 0 where
+  pub session : Session
+  pub is : session_in id t.sessions ≡ Some session
+  pub seq : session.seq ≡ view.seq
+
+found_some : (id : ℕ) (t : Table) (view : SessionView) → Some view ≡ view_at id t → IsFound id t view
+found_some id t view e = go (session_in id t.sessions) refl e
+  where
+    go : (o : Option Session) → session_in id t.sessions ≡ o → Some view ≡ option_map (view_of (confirmed_of id t)) o → IsFound id t view
+    go None f e = absurd (cc)
+    go (Some x) f e = record { session = x; is = f; seq = let same : view ≡ view_of (confirmed_of id t) x = (cc) in sym (ap (λ (v : SessionView). v.seq) same) }
+
+pub is_newer : (id seq index : ℕ) (t : Table) (view : SessionView) → Some view ≡ view_at id t → view.seq < seq → AreKeptBefore index t.sessions → NewerReply seq index (session_at id t)
+is_newer id seq index t view e less before =
+    let f = found_some id t view e in
+    subst (NewerReply seq index) (sym f.is) (let same = f.seq in omega (arith, same, less), each_found (λ (x : Session). AreBelow index (map (λ (r : Kept_reply). r.index) x.replies)) t.sessions before id f.session f.is)
+
+module _ (id seq index cut : ℕ) (reply : Reply) (t : Table) (view : SessionView) (e : Some view ≡ view_at id t) (rises : Rises t.sessions) where
+  same_seq : (x : Session) → session_in id t.sessions ≡ Some x → x.seq ≡ view.seq
+  same_seq x f = let there = found_some id t view e in let same : x ≡ there.session = let i = there.is in (cc) in ap (λ (y : Session). y.seq) same ∙ there.seq
+
+  pub keeps : cut < index → view.seq < seq → changed id (with_reply seq index reply) t.sessions ≡ changed id (replay_reply cut seq index reply) t.sessions
+  keeps above newer = changed_same id (with_reply seq index reply) (replay_reply cut seq index reply) t.sessions rises (λ x f.
+      let same = same_seq x f in
+      sym ((λ j. cond (lt-ltb cut index above j && nat_lt x.seq seq) (with_reply seq index reply x) (noted seq x))
+      ∙ ap (λ b. cond b (with_reply seq index reply x) (noted seq x)) (lt-ltb x.seq seq (omega (arith, same, newer)))))
+
+  notes : ((x : Session) → x.seq ≡ view.seq → (nat_lt cut index && nat_lt x.seq seq) ≡ false) → changed id (noted seq) t.sessions ≡ changed id (replay_reply cut seq index reply) t.sessions
+  notes either = changed_same id (noted seq) (replay_reply cut seq index reply) t.sessions rises (λ x f. sym (ap (λ b. cond b (with_reply seq index reply x) (noted seq x)) (either x (same_seq x f))))
+
+  pub notes_old : index ≤ cut → changed id (noted seq) t.sessions ≡ changed id (replay_reply cut seq index reply) t.sessions
+  notes_old not_above = notes (λ x same. ap (λ b. b && nat_lt x.seq seq) (false_from_ne_true (nat_lt cut index) (λ q. let less = ltb-true cut index q in omega (arith, less, not_above))))
+
+  pub notes_repeat : seq ≤ view.seq → changed id (noted seq) t.sessions ≡ changed id (replay_reply cut seq index reply) t.sessions
+  notes_repeat not_newer = notes (λ x same. ap (λ b. nat_lt cut index && b) (false_from_ne_true (nat_lt x.seq seq) (λ q. let less = ltb-true x.seq seq q in omega (arith, same, less, not_newer))) ∙ false_right (nat_lt cut index))
+    where
+      false_right : (b : Bool) → (b && false) ≡ false
+      false_right true = refl
+      false_right false = refl
+
+-- ---- a keep-alive
+
+pub open_changed : (id : ℕ) (f : Session → Session) → ((x : Session) → (f x).id ≡ x.id) → (ss : List Session) → is_some (session_in id (changed id f ss)) ≡ is_some (session_in id ss)
+open_changed id f own [] = refl
+open_changed id f own (x ∷ ss) =
+    elim (x.id == id) as (λ b. (x.id == id) ≡ b → is_some (cond ((cond b (f x) x).id == id) (Some (cond b (f x) x)) (session_in id (changed id f ss))) ≡ is_some (cond b (Some x) (session_in id ss))) [
+      | true ↦ λ q. ap (λ z. is_some (cond z (Some (f x)) (session_in id (changed id f ss)))) (ap (λ n. n == id) (own x) ∙ q)
+      | false ↦ λ q. ap (λ z. is_some (cond z (Some x) (session_in id (changed id f ss)))) q ∙ open_changed id f own ss
+    ] refl
+
+twice : (id : ℕ) (f g h : Session → Session) (P : Session → Type 0) → ((x : Session) → (g x).id ≡ x.id) → ((x : Session) → P x → f (g x) ≡ h x) → (ss : List Session) → AllByRecursion P ss → changed id f (changed id g ss) ≡ changed id h ss
+twice id f g h P own same [] a = refl
+twice id f g h P own same (x ∷ ss) a =
+    elim (x.id == id) as (λ b. (x.id == id) ≡ b → cond ((cond b (g x) x).id == id) (f (cond b (g x) x)) (cond b (g x) x) ∷ changed id f (changed id g ss) ≡ cond b (h x) x ∷ changed id h ss) [
+      | true ↦ λ q. (λ j. (ap (λ z. cond z (f (g x)) (g x)) (ap (λ n. n == id) (own x) ∙ q) ∙ same x a.0) j ∷ twice id f g h P own same ss a.1 j)
+      | false ↦ λ q. (λ j. cond (q j) (f x) x ∷ twice id f g h P own same ss a.1 j)
+    ] refl
+
+-- where no batch is kept, it is as the log has it
+heard_so : (time seq event : ℕ) (x : Session) → x.batches ≡ [] → noted seq (alive_at time seq event x) ≡ replay_alive time seq event x
+heard_so time seq event x none = go (nat_lt event x.acked_event) refl
+  where
+    y : Session
+    y = record x { last_time = time; acked_seq = seq; replies = filter (λ r. nat_lt seq r.seq) x.replies }
+
+    with : ℕ → List Kept_batch → Session
+    with acked batches = record y { acked_event = acked; batches = batches }
+
+    kept : ℕ → List Kept_batch → List Kept_batch
+    kept acked bs = filter (λ b. nat_lt acked b.index) bs
+
+    go : (b : Bool) → nat_lt event x.acked_event ≡ b → noted seq (with (max x.acked_event event) (kept event x.batches)) ≡ noted seq (cond b y (with event (kept event x.batches)))
+    go true e =
+        let less = ltb-true event x.acked_event e in
+        let same : max x.acked_event event ≡ x.acked_event = omega (arith, less) in
+        (λ j. noted seq (with (same j) (kept event (none j))))
+        ∙ (λ j. noted seq (with x.acked_event (sym none j)))
+    go false e =
+        let not_less = ltb-false event x.acked_event e in
+        let same : max x.acked_event event ≡ event = omega (arith, not_less) in
+        (λ j. noted seq (with (same j) (kept event x.batches)))
+
+pub heard_as : (id time seq event : ℕ) (ss : List Session) → AllByRecursion (λ (x : Session). x.batches ≡ []) ss → changed id (noted seq) (changed id (alive_at time seq event) ss) ≡ changed id (replay_alive time seq event) ss
+heard_as id time seq event ss silent = twice id (noted seq) (alive_at time seq event) (replay_alive time seq event) (λ (x : Session). x.batches ≡ []) (λ x. refl) (heard_so time seq event) ss silent
+
+pub is_open : (id : ℕ) (t : Table) → is_some (view_at id t) ≡ is_some (session_in id t.sessions)
+is_open id t = elim (session_in id t.sessions) as (λ o. is_some (option_map (view_of (confirmed_of id t)) o) ≡ is_some o) [ None ↦ refl | Some x ↦ refl ]
+
+pub shut : (id : ℕ) (t : Table) → is_some (view_at id t) ≡ false → session_in id t.sessions ≡ None
+shut id t e = elim (session_in id t.sessions) as (λ o. is_some (option_map (view_of (confirmed_of id t)) o) ≡ false → o ≡ None) [ None ↦ λ q. refl | Some x ↦ λ q. absurd (cc) ] e
+
+-- ---- nobody is told anything
+
+nothing_more : (bs : List Kept_batch) → bs ++ [] ≡ bs
+nothing_more [] = refl
+nothing_more (b ∷ bs) = ap (λ (r : List Kept_batch). b ∷ r) (nothing_more bs)
+
+pub untold : (cut i : ℕ) (ss : List Session) → replay_batches cut i [] ss ≡ ss
+untold cut i ss = elim (nat_lt cut i) as (λ b. cond b (map (λ (x : Session). pushed i [] x) ss) ss ≡ ss) [ true ↦ each ss | false ↦ refl ]
+  where
+    one : (x : Session) → pushed i [] x ≡ x
+    one x = elim (nat_le i x.acked_event) as (λ b. cond b x (record x { batches = x.batches ++ [] }) ≡ x) [ true ↦ refl | false ↦ ap (λ bs. record x { batches = bs }) (nothing_more x.batches) ]
+
+    each : (ss : List Session) → map (λ (x : Session). pushed i [] x) ss ≡ ss
+    each [] = refl
+    each (x ∷ ss) = λ j. one x j ∷ each ss j
+
+-- ---- what was entered, by its body
+
+module _ (index time cut : ℕ) (machine : Cells) (table : Table) (lent : Lent) (m : Meets index machine table lent) where
+  abbrev pub Done : Body → Cells → Table → Lent → Type 0
+  Done b machine' table' lent' = Entered index (record { time = time; body = b }) cut machine machine' table table' lent'
+
+  pub entered_register : (timeout : ℕ) (table' : Table) → table'.sessions ≡ table.sessions ++ new_session index time timeout ∷ [] → table'.beside ≡ table.beside ++ record { id = index; alive = None; confirmed = index } ∷ []
+      → ((j : ℕ) → places_of (table_cells table') j ≡ places_of (table_cells table) j + one_of index j) → Done (Register timeout) machine table' lent
+  entered_register timeout table' sessions beside places = record {
+    machine_is = refl;
+    table_is = ap cells_of beside ∙ registered table.beside (record { id = index; alive = None; confirmed = index }) time timeout refl (besides_are_before index machine table lent m);
+    sessions_are = sessions;
+    out = λ j. (let all = m.out j in let more = places j in omega (arith, all, more));
+  }
+
+  pub entered_close : (session : ℕ) (expired : Bool) (machine' : Cells) (table' : Table) (lent' : Lent) → machine' ≡ without_owner session machine → table'.sessions ≡ filter (λ (x : Session). not (x.id == session)) table.sessions
+      → table_cells table' ≡ after (table_cells table) index (record { time = time; body = Close session expired }) → IsOut machine' table' lent' → Done (Close session expired) machine' table' lent'
+  entered_close session expired machine' table' lent' machine_is sessions table_is out = record {
+    machine_is = machine_is;
+    table_is = table_is;
+    sessions_are = sessions ∙ sym (untold cut index (filter (λ (x : Session). not (x.id == session)) table.sessions));
+    out = out;
+  }
+
+  pub entered_command : (session seq : ℕ) (f : Effect) (reply : Reply) (machine' : Cells) (table' : Table) (lent' : Lent)
+      → machine' ≡ machine_after (machine ++ table_cells table) index (Command session seq f reply) machine
+      → table'.sessions ≡ changed session (replay_reply cut seq index reply) table.sessions → table_cells table' ≡ table_cells table → IsOut machine' table lent' → Done (Command session seq f reply) machine' table' lent'
+  entered_command session seq f reply machine' table' lent' machine_is sessions table_is out = record {
+    machine_is = machine_is;
+    table_is = table_is;
+    sessions_are = sessions ∙ ap (changed session (replay_reply cut seq index reply)) (sym (untold cut index table.sessions));
+    out = λ j. out j ∙ ap (λ c. places_of machine' j + places_of c j) (sym table_is);
+  }

@@ -1,0 +1,31 @@
+use Rattle.std.proofs.Common.{◌<◌, sym, ap, subst, ◌∙◌}
+use Rattle.host_core.specs.Entering.{Entered, Meets}
+use Rattle.host_core.specs.Seen.{Seen, hosted}
+use Rattle.host_core.proofs.Keeping.{absent, meets, state_is, is_kept}
+use Rattle.host_core.proofs.state.Core.take.Goals as goal
+
+pub lend-commit-requires-clause-absent : goal.lend-commit-requires-clause-absent
+lend-commit-requires-clause-absent κs c =
+    absent κs.M.Machine.cells κs.M.Machine.decides _ c.self.invariant c.args.index (subst (λ n. n < c.args.index) (sym (ap (λ (s : Seen κs.row.M.Denot). s.last) c.self.view_is)) c.requires.behind)
+
+pub enter-requires-clause-meets : goal.enter-requires-clause-meets
+enter-requires-clause-meets κs c =
+    subst (λ i. Meets i (κs.M.Machine.cells c.self.inside.machine) c.self.inside.sessions c.lend-commit.new.self) (sym c.lend-commit.ensures.index)
+    (meets κs.M.Machine.cells κs.M.Machine.decides _ c.self.invariant c.args.index c.lend-commit.new.self (subst (λ n. n < c.args.index) (sym (ap (λ (s : Seen κs.row.M.Denot). s.last) c.self.view_is)) c.requires.behind) c.lend-commit.ensures.tokens)
+
+pub invariant_of-self : goal.invariant_of-self
+invariant_of-self κs c =
+    is_kept κs.M.Machine.cells κs.M.Machine.decides _ c.self.invariant c.args.index c.args.cut c.args.entry
+    (subst (λ n. n < c.args.index) (sym (ap (λ (s : Seen κs.row.M.Denot). s.last) c.self.view_is)) c.requires.behind) c.requires.fits c.requires.range
+    c.enter.new.machine c.enter.new.sessions c.enter.new.lender c.drop_closed.new.lender
+    (subst (λ i. Entered i c.args.entry c.args.cut (κs.M.Machine.cells c.self.inside.machine) (κs.M.Machine.cells c.enter.new.machine) c.self.inside.sessions c.enter.new.sessions c.enter.new.lender) c.lend-commit.ensures.index c.enter.ensures)
+    c.drop_closed.ensures.out c.drop_closed.ensures.closed
+
+pub returns : goal.returns
+returns κs c =
+    state_is κs.M.Machine.cells κs.M.Machine.decides _ c.self.invariant c.args.index c.args.cut c.args.entry
+    (subst (λ n. n < c.args.index) (sym (ap (λ (s : Seen κs.row.M.Denot). s.last) c.self.view_is)) c.requires.behind) c.requires.fits c.requires.range
+    c.enter.new.machine c.enter.new.sessions c.enter.new.lender c.drop_closed.new.lender
+    (subst (λ i. Entered i c.args.entry c.args.cut (κs.M.Machine.cells c.self.inside.machine) (κs.M.Machine.cells c.enter.new.machine) c.self.inside.sessions c.enter.new.sessions c.enter.new.lender) c.lend-commit.ensures.index c.enter.ensures)
+    c.drop_closed.ensures.out c.drop_closed.ensures.closed
+    ∙ ap (λ (s : Seen κs.row.M.Denot). Rattle.log_model.specs.Replay.replay_entry (Rattle.log_model.specs.Hosted.hosted_told κs.M.Machine.decides) c.args.cut (hosted κs.M.Machine.cells s) (c.args.index, c.args.entry)) c.self.view_is

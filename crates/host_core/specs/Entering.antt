@@ -1,0 +1,61 @@
+-- What an entry does to a machine, to the sessions and to a lender.
+use Rattle.std.specs.Prelude.{◌≡◌, ℕ, ◌+◌, ◌≤◌, ◌<◌, Bool, true, List, map, [], ◌++◌, Some, is_some}
+use Rattle.host_types.specs.declared.entry.Body.{Body}
+use Rattle.host_types.specs.declared.entry.Body.TheVariants as bodies
+use Rattle.host_types.specs.declared.entry.Effect.{Effect}
+use Rattle.host_types.specs.declared.entry.Effect.TheVariants.{Put}
+use Rattle.host_types.specs.declared.entry.Entry.{Entry}
+use Rattle.std.specs.List.{AllByRecursion}
+use Rattle.host_types.specs.Cells.{Cells, places_of}
+use Rattle.commit_lending.specs.Lent.{Lent, tokens, one_of}
+use Rattle.log_model.specs.Plain.{Session, session_in}
+use Rattle.log_model.specs.Hosted.{machine_cells}
+use Rattle.log_model.specs.Parts.{machine_after, session_cells}
+use Rattle.log_model.specs.Replay.{replay_sessions}
+use Rattle.log_model.specs.Sound.{IsSound}
+use Rattle.event_batches.specs.Rising.{AreBelow}
+use Rattle.session_table.specs.Table.{Table, IsOpen, reply_room}
+use Rattle.session_table.specs.Places.{table_cells}
+use Rattle.host_core.specs.Parts.{sessions_after}
+
+-- exactly what holds a place of the machine or of the sessions is out
+abbrev pub IsOut : Cells → Table → Lent → Type 0
+IsOut machine table lent = (j : ℕ) → tokens lent j ≡ places_of machine j + places_of (table_cells table) j
+
+-- and so is the commit of this index, which holds none
+abbrev pub IsOutWith : ℕ → Cells → Table → Lent → Type 0
+IsOutWith index machine table lent = (j : ℕ) → tokens lent j ≡ (places_of machine j + places_of (table_cells table) j) + one_of index j
+
+-- A commit stands before a host's machine and sessions: their state is sound, and the commit is behind it and out. Sessions keep no
+-- batches.
+pub record Meets (index : ℕ) (machine : Cells) (table : Table) (lent : Lent) : Type 0 where
+  pub last : ℕ
+  pub time : ℕ
+  pub sound : IsSound (record { last = last; now = time; sessions = table.sessions; cells = machine ++ table_cells table })
+  pub machine_is : machine_cells (machine ++ table_cells table) ≡ machine
+  pub table_is : session_cells (machine ++ table_cells table) ≡ table_cells table
+  pub behind : last < index
+  pub out : IsOutWith index machine table lent
+  pub silent : AllByRecursion (λ (x : Session). x.batches ≡ []) table.sessions
+
+-- each session's kept replies are of entries before this index
+abbrev pub AreKeptBefore : ℕ → List Session → Type 0
+AreKeptBefore index sessions = AllByRecursion (λ (x : Session). AreBelow index (map (λ r. r.index) x.replies)) sessions
+
+-- there is room for what the entry puts, where this says what a machine is ready for
+abbrev pub HasRoomFor : (Effect → ℕ → Type 0) → Table → ℕ → Body → Type 0
+HasRoomFor ready table index (bodies.Register timeout) = 1 ≤ table.spare
+HasRoomFor ready table index (bodies.Command session seq effect reply) = ready effect index × (IsOpen session table → 1 ≤ reply_room session table)
+HasRoomFor ready table index _ = Unit {0}
+
+-- whoever would own what the effect puts is open, or nobody is
+abbrev pub has_owner : List Session → Effect → Bool
+has_owner sessions (Put instance cell content (Some owner)) = is_some (session_in owner sessions)
+has_owner sessions _ = true
+
+-- The entry was entered: each part has followed, and exactly what holds a place is out.
+pub record Entered (index : ℕ) (e : Entry) (cut : ℕ) (machine machine' : Cells) (table table' : Table) (lent' : Lent) : Type 0 where
+  pub machine_is : machine' ≡ machine_after (machine ++ table_cells table) index e.body machine
+  pub table_is : table_cells table' ≡ sessions_after index e (table_cells table)
+  pub sessions_are : table'.sessions ≡ replay_sessions cut index e.time [] e.body table.sessions
+  pub out : IsOut machine' table' lent'

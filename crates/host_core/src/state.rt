@@ -1,0 +1,219 @@
+// The core of a host: its machine, its sessions and its commits.
+ghost use Rattle.std.specs.Prelude.{◌≡◌, ℕ, ◌≤◌, ◌<◌, ◌+◌, [], IfOk, OnOk, OnErr};
+ghost use Rattle.host_types.specs.Ranges.{EntryFits, IsInRange};
+ghost use Rattle.log_model.specs.Admission.{Offered};
+ghost use Rattle.log_model.specs.Hosted.{hosted_admits, hosted_entry, hosted_nothing, hosted_quiet, hosted_told};
+ghost use Rattle.log_model.specs.Replay.{replay_entry};
+ghost use Rattle.host_core.specs.Answers.{Decides_as};
+ghost use Rattle.host_core.specs.Seen.{IsPrepared, TellsNothing, hosted};
+
+use crate::deciding::{DecideError, Decided, decide_ask, decide_at_end};
+use crate::entering::{drop_closed, enter, make_room};
+use commit_lending::Lender;
+use host_types::{Entry, Index, NoMemory, Offer, Refusal, Time};
+use machine::Machine;
+use session_table::Sessions;
+use std::alloc::Global;
+use std::marker::Model;
+
+/// The state of a host in memory, over any machine that tells nobody anything. It is seen as its machine, its sessions, its lender,
+/// the last index and the log's time (`Seen`); together they are the state `hosted`.
+///
+/// What it makes of offers and entries is told by the machine's decision alone (`log_model`'s `Hosted` and `Replay`). Between two
+/// calls exactly the entries that hold a cell are out at its lender, and none is closed.
+pub struct Core<M: Machine> {
+    machine: M,
+    sessions: Sessions,
+    lender: Lender,
+    last: Index,
+    time: Time,
+}
+
+impl<M: Machine> Model for Core<M> {
+    ghost use Rattle.std.specs.Coded.{codes};
+    ghost use Rattle.host_core.specs.Seen.{IsKept, Seen, seen_code};
+
+    ghost Value = { Seen M };
+
+    ghost coded = { seen_code M.code (Prim.hlevel codes) };
+
+    ghost view = { λ c. record { machine = c.machine; sessions = c.sessions; lender = c.lender; last = c.last; time = c.time } };
+
+    ghost invariant = { λ c. IsKept M.cells M.decides (record { machine = c.machine; sessions = c.sessions; lender = c.lender; last = c.last; time = c.time }) };
+}
+
+/// Room for one entry, made by `reserve`. It is spent by `apply` or by `cancel`.
+pub struct Prepared {
+    index: Index,
+}
+
+impl<M: Machine> Core<M> {
+    /// A core of the empty log. The machine has no cell. It takes no memory.
+    pub fn new(alloc: Global, machine: M) -> Core<M>
+        requires none { M.cells machine ≡ [] }
+        requires tells { TellsNothing M.decides }
+        ensures { hosted M.cells result ≡ hosted_nothing }
+    {
+        Core {
+            machine,
+            sessions: Sessions::new(alloc),
+            lender: Lender::new(alloc),
+            last: 0,
+            time: 0,
+        }
+    }
+
+    /// The index of the last entry, or 0.
+    pub fn last(&self) -> Index
+        ensures { result ≡ (hosted M.cells self.now).last }
+    {
+        self.last
+    }
+
+    /// The log's time: that of the last entry, or 0.
+    pub fn now(&self) -> Time
+        ensures { result ≡ self.now.time }
+    {
+        self.time
+    }
+
+    /// Its machine.
+    pub fn machine(&self) -> &M
+        ensures { result.now ≡ self.now.machine }
+    {
+        &self.machine
+    }
+
+    /// Its sessions.
+    pub fn sessions(&self) -> &Sessions
+        ensures { result.now ≡ self.now.sessions }
+    {
+        &self.sessions
+    }
+
+    /// The greatest index, at most the last, at or below which no session waits for a reply or a batch.
+    pub fn quiet(&self) -> Index
+        ensures { result ≡ hosted_quiet (hosted M.cells self.now) }
+    {
+        self.sessions.quiet(self.last)
+    }
+
+    /// Decides an offer: it is stored as an entry, or it repeats a command whose reply is kept, or it is refused. Every refusal comes
+    /// exactly by its cause, the first cause alone. Nothing is changed.
+    pub fn decide(&self, alloc: Global, offer: &Offer) -> Result<Decided, DecideError>
+        ensures { Decides_as (hosted_admits M.decides (hosted M.cells self.now) offer.now) (hosted_entry M.decides (hosted M.cells self.now) (Offered offer.now)) result }
+    {
+        if offer.time < self.time {
+            return Err(DecideError::Refused(Refusal::Time { now: self.time }));
+        }
+        if let Some(session) = self.sessions.due(offer.time) {
+            return Err(DecideError::Refused(Refusal::Due { session }));
+        }
+        let asked = decide_ask(
+            alloc,
+            &self.machine,
+            &self.sessions,
+            &offer.ask,
+            self.last + 1,
+        );
+        decide_at_end(asked, offer.time, self.last)
+    }
+
+    /// Makes room to apply the entry with this index, once. Nothing else is changed, whatever it answers.
+    pub fn reserve(
+        &mut self,
+        alloc: Global,
+        index: Index,
+        entry: &Entry,
+    ) -> Result<Prepared, NoMemory>
+        ensures prepared { OnOk result (IsPrepared M.is_ready self.new index entry.now.body) }
+        ensures state { hosted M.cells self.new ≡ hosted M.cells self.old }
+    {
+        if self.lender.reserve().is_err() {
+            return Err(NoMemory);
+        }
+        make_room(
+            alloc,
+            &mut self.machine,
+            &mut self.sessions,
+            index,
+            &entry.body,
+        )?;
+        Ok(Prepared { index })
+    }
+
+    /// Applies an entry whose index is behind the last one, into the room that was made for it. It takes no memory and can't fail.
+    pub fn apply(&mut self, index: Index, entry: Entry, prepared: Prepared)
+        requires behind { self.old.last < index }
+        requires fits { EntryFits entry }
+        requires range { IsInRange index entry }
+        requires prepared { IsPrepared M.is_ready self.old index entry.body }
+        ensures { hosted M.cells self.new ≡ replay_entry (hosted_told M.decides) 0 (hosted M.cells self.old) (index, entry) }
+    {
+        let Prepared { index: _ } = prepared;
+        self.take(index, entry, 0);
+    }
+
+    /// Gives the room back.
+    pub fn cancel(&mut self, prepared: Prepared)
+        ensures { hosted M.cells self.new ≡ hosted M.cells self.old }
+    {
+        let Prepared { index: _ } = prepared;
+    }
+
+    /// Takes the next entry of a log that is opened again, whose index is behind the last one. At or below the cut no reply is kept.
+    /// After an error all is as before.
+    pub fn replay(
+        &mut self,
+        alloc: Global,
+        index: Index,
+        entry: Entry,
+        cut: Index,
+    ) -> Result<(), NoMemory>
+        requires behind { self.old.last < index }
+        requires fits { EntryFits entry }
+        requires range { IsInRange index entry }
+        ensures ok { OnOk result (hosted M.cells self.new ≡ replay_entry (hosted_told M.decides) cut (hosted M.cells self.old) (index, entry)) }
+        ensures err { OnErr result (hosted M.cells self.new ≡ hosted M.cells self.old) }
+    {
+        let Prepared { index: _ } = self.reserve(alloc, index, &entry)?;
+        self.take(index, entry, cut);
+        Ok(())
+    }
+
+    /// Enters an entry into the room that was made for it.
+    fn take(&mut self, index: Index, entry: Entry, cut: Index)
+        requires behind { self.old.last < index }
+        requires fits { EntryFits entry }
+        requires range { IsInRange index entry }
+        requires prepared { IsPrepared M.is_ready self.old index entry.body }
+        ensures { hosted M.cells self.new ≡ replay_entry (hosted_told M.decides) cut (hosted M.cells self.old) (index, entry) }
+    {
+        let time = entry.time;
+        let commit = self.lender.lend(index);
+        enter(
+            &mut self.machine,
+            &mut self.sessions,
+            &mut self.lender,
+            commit,
+            entry,
+            cut,
+        );
+        drop_closed(&mut self.lender);
+        self.last = index;
+        self.time = time;
+    }
+
+    /// Ends it: all that it holds is retired. It takes no memory.
+    pub fn end(self) {
+        let Core {
+            machine,
+            sessions,
+            mut lender,
+            last: _,
+            time: _,
+        } = self;
+        machine.end(&mut lender);
+        sessions.end(&mut lender);
+    }
+}
