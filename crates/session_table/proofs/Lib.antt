@@ -4,3 +4,4 @@ pub mod Tables
 pub mod Walks
 pub mod Holding
 pub mod Commits
+pub mod TestLaws

@@ -3,7 +3,8 @@ use Rattle.std.proofs.Common.{◌≡◌, ◌≢◌, ℕ, ◌≤◌, ◌==◌, Bo
 use Rattle.std.proofs.lemmas.Bool.{cases_eq, false_from_ne_true}
 use Rattle.std.proofs.lemmas.List.Sums.{sum_by-cons}
 use Rattle.std.proofs.lemmas.Option.{none-some, same_Some}
-use Rattle.std.specs.List.{find}
+use Rattle.std.specs.List.{find, flat_map}
+use Rattle.host_types.specs.Cells.{Place, Held, Register_at, marked}
 use Rattle.std.specs.Option.{option_map, option_map_or, IsSome, IsSomeAnd}
 use Rattle.slab.specs.Slab.{get, with_value, ContainsKey, slab_len}
 use Rattle.log_model.specs.Plain.{Session}
@@ -12,6 +13,7 @@ use Rattle.event_batches.specs.Rising.{Rises}
 use Rattle.session_table.specs.Kept.{Kept_session}
 use Rattle.session_table.specs.Table.{Beside, Room, Table, session_at, IsOpen, confirmed_of, reply_room, batch_room, KeepsRoom, IsSame, beside_changed, beside_confirmed}
 use Rattle.session_table.specs.Rows.{Slots, row_at, kept_in, Seat, one_seat, seats, AreSeated, beside_of, room_of}
+use Rattle.session_table.specs.Places.{alive_place, cells_of}
 use Rattle.session_table.specs.Inside.{table, IsInOrder}
 use Rattle.session_table.specs.declared.sessions.Sessions.TheInside.{Inside}
 use Rattle.session_table.specs.declared.order.Row.{Row}
@@ -302,6 +304,30 @@ pub beside_if : (a : Inside) (t : Table) (id slot event : ℕ) (kept kept' : Kep
 beside_if a t id slot event kept kept' true ch view same e =
     ch.beside (beside_confirmed event) (λ alive i. record { id = sym same i; alive = alive; confirmed = sym e i }) ∙ ap (λ (u : Table). beside_changed id (beside_confirmed event) u.beside) view
 beside_if a t id slot event kept kept' false ch view same e = ch.beside_stays e ∙ ap (λ (u : Table). u.beside) view
+
+-- the places stay where an event is confirmed
+abbrev register_place : Beside → Place × Held
+register_place b = (Register_at b.id, marked b.id)
+
+registers_confirmed : (id event : ℕ) (bs : List Beside) → map register_place (beside_changed id (beside_confirmed event) bs) ≡ map register_place bs
+registers_confirmed id event [] = refl
+registers_confirmed id event (b ∷ bs) = (λ i. one (b.id == id) i ∷ registers_confirmed id event bs i)
+  where
+    one : (q : Bool) → register_place (cond q (beside_confirmed event b) b) ≡ register_place b
+    one true = refl
+    one false = refl
+
+alive_confirmed : (id event : ℕ) (bs : List Beside) → flat_map (λ b. alive_place b.id b.alive) (beside_changed id (beside_confirmed event) bs) ≡ flat_map (λ b. alive_place b.id b.alive) bs
+alive_confirmed id event [] = refl
+alive_confirmed id event (b ∷ bs) = (λ i. one (b.id == id) i ++ alive_confirmed id event bs i)
+  where
+    one : (q : Bool) → alive_place (cond q (beside_confirmed event b) b).id (cond q (beside_confirmed event b) b).alive ≡ alive_place b.id b.alive
+    one true = refl
+    one false = refl
+
+pub cells_if : (id event : ℕ) (b : Bool) (bs news : List Beside) → news ≡ cond b (beside_changed id (beside_confirmed event) bs) bs → cells_of news ≡ cells_of bs
+cells_if id event true bs news e = ap cells_of e ∙ (λ i. registers_confirmed id event bs i ++ alive_confirmed id event bs i)
+cells_if id event false bs news e = ap cells_of e
 
 -- ---- what is read of one session
 

@@ -7,3 +7,4 @@ pub mod Asked
 pub mod Places
 pub mod Rows
 pub mod Inside
+pub mod TestSteps

@@ -5,6 +5,8 @@ mod open_session;
 mod order;
 mod replies;
 mod sessions;
+#[cfg(test)]
+mod tests;
 mod view;
 
 pub use sessions::Sessions;

@@ -164,6 +164,7 @@ impl Sessions {
         ensures err { IfErr result (λ at. at ≡ confirmed_of id self.old) }
         ensures sessions { self.new.sessions ≡ self.old.sessions }
         ensures beside { self.new.beside ≡ cond (is_ok result) (beside_changed id (beside_confirmed event) self.old.beside) self.old.beside }
+        ensures cells { table_cells self.new ≡ table_cells self.old }
         ensures rooms { (other : ℕ) → KeepsRoom other self.old self.new }
         ensures spare { self.new.spare ≡ self.old.spare }
     {

@@ -1,7 +1,7 @@
 use Rattle.std.proofs.Common.{◌≡◌, ◌∙◌, ap, subst, sym, arith, IfErr, is_ok}
 use Rattle.log_model.specs.Plain.{Session}
 use Rattle.session_table.specs.Table.{Table}
-use Rattle.session_table.proofs.Tables.{changed_in, in_order, keeps_room, open_in, shows_in, slot_filled, beside_if}
+use Rattle.session_table.proofs.Tables.{changed_in, in_order, keeps_room, open_in, shows_in, slot_filled, beside_if, cells_if}
 use Rattle.session_table.specs.Asked.{confirms_in}
 use Rattle.session_table.proofs.sessions.Sessions.confirm.Goals as goal
 
@@ -34,3 +34,7 @@ returns-clause-beside c =
 pub returns-clause-rooms : goal.returns-clause-rooms
 returns-clause-rooms c =
     keeps_room c.self.inside c.args.self.now c.args.id c.open_slot-slot.result c.index_mut.result.now c.confirm.new.self (changed_in c.self.inside c.args.id c.open_slot-slot.result c.index_mut.result.now c.confirm.new.self c.self.invariant c.open_slot-slot.ensures c.index_mut.ensures.value (ap (λ (x : Session). x.id) c.confirm.ensures.session)) c.self.view_is (omega (arith, c.confirm.ensures.reply_room)) (omega (arith, c.confirm.ensures.batch_room))
+
+pub returns-clause-cells : goal.returns-clause-cells
+returns-clause-cells c =
+    cells_if c.args.id c.args.event (is_ok c.confirm.result) c.args.self.now.beside _ (beside_if c.self.inside c.args.self.now c.args.id c.open_slot-slot.result c.args.event c.index_mut.result.now c.confirm.new.self (is_ok c.confirm.result) (changed_in c.self.inside c.args.id c.open_slot-slot.result c.index_mut.result.now c.confirm.new.self c.self.invariant c.open_slot-slot.ensures c.index_mut.ensures.value (ap (λ (x : Session). x.id) c.confirm.ensures.session)) c.self.view_is (ap (λ (x : Session). x.id) c.confirm.ensures.session) c.confirm.ensures.confirmed)
