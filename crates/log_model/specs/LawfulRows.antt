@@ -135,7 +135,7 @@ equal Equal e = refl
 equal Greater e = absurd (cc)
 
 -- what stands at the one place that was written stands there
-found_place : (place p : Place) (x held : Held) → at ((p, x) ∷ []) place ≡ Some held → place ≡ p
+pub found_place : (place p : Place) (x held : Held) → at ((p, x) ∷ []) place ≡ Some held → place ≡ p
 found_place place p x held = go (eq_by_cmp place_cmp place p) (λ e. exact_places place p (equal (place_cmp place p) e))
   where
     go : (b : Bool) → (b ≡ true → place ≡ p) → cond b (Some x) None ≡ Some held → place ≡ p
