@@ -4,4 +4,5 @@ pub mod Tables
 pub mod Walks
 pub mod Holding
 pub mod Commits
+pub mod CellSteps
 pub mod TestLaws

@@ -104,6 +104,9 @@ reads_confirmed rows slots spare id o r h e =
     ∙ ap (λ o. option_map_or (λ (n : ℕ). n) o 0) ((read rows slots id r h).confirmed ∙ ap (option_map (λ (k : Kept_session). k.confirmed)) (sym e))
     ∙ sym (mapped_or (λ (k : Kept_session). k.confirmed) o 0)
 
+pub reads_beside : (rows : List Row) (slots : Slots) (id : ℕ) (o : Option Kept_session) → Rises 0 (registers rows) → AreSeated rows slots → o ≡ kept_in (row_at id rows) slots → option_map (λ b. b.confirmed) (find (λ b. b.id == id) (shown_beside rows slots)) ≡ option_map (λ k. k.confirmed) o
+reads_beside rows slots id o r h e = (read rows slots id r h).confirmed ∙ ap (option_map (λ (k : Kept_session). k.confirmed)) (sym e)
+
 pub reads_reply_room : (rows : List Row) (slots : Slots) (spare id : ℕ) (o : Option Kept_session) → Rises 0 (registers rows) → AreSeated rows slots → o ≡ kept_in (row_at id rows) slots → reply_room id (shown rows slots spare) ≡ option_map_or (λ k. k.reply_room) o 0
 reads_reply_room rows slots spare id o r h e =
     mapped_or (λ (b : Room). b.replies) (find (λ b. b.id == id) (shown_rooms rows slots)) 0

@@ -13,9 +13,8 @@ use Rattle.machine.proofs.ReleaseLaws.{are_out_lent, are_out_with, are_out_still
 use Rattle.log_model.specs.Plain.{Kept_reply, Kept_batch, Session}
 use Rattle.log_model.specs.Quiet.{kept_indexes}
 use Rattle.log_model.specs.Step.{changed, new_session, with_reply}
-use Rattle.event_batches.specs.Kept.{pushed}
 use Rattle.event_batches.specs.Rising.{AreBelow}
-use Rattle.event_batches.proofs.RisingLists.{map_push, below_append}
+use Rattle.event_batches.proofs.RisingLists.{below_append}
 use Rattle.session_table.specs.Kept.{session_indexes, batch_indexes}
 use Rattle.session_table.specs.Replies.{reply_indexes}
 use Rattle.session_table.specs.Asked.{NewerReply, NewerBatch}
@@ -94,8 +93,8 @@ alive_below : (top time seq event : ℕ) (x : Session) → AreBelow top (session
 alive_below top time seq event x b =
     let r = below_parts top (reply_indexes x.replies) (batch_indexes x.batches) b in
     below_append top (reply_indexes (alive_at time seq event x).replies) (batch_indexes (alive_at time seq event x).batches)
-      (below_filter (λ (r : Kept_reply). r.index) (λ r. nat_lt seq r.seq) top x.replies r.0)
-      (below_filter (λ (k : Kept_batch). k.index) (λ k. nat_lt event k.index) top x.batches r.1)
+    (below_filter (λ (r : Kept_reply). r.index) (λ r. nat_lt seq r.seq) top x.replies r.0)
+    (below_filter (λ (k : Kept_batch). k.index) (λ k. nat_lt event k.index) top x.batches r.1)
 
 -- ---- what is out and what is free
 

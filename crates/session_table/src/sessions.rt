@@ -192,6 +192,7 @@ impl Sessions {
         requires above { AreBelow commit (ids self.old) }
         ensures sessions { self.new.sessions ≡ self.old.sessions ++ new_session commit time timeout ∷ [] }
         ensures beside { self.new.beside ≡ self.old.beside ++ record { id = commit; alive = None; confirmed = commit } ∷ [] }
+        ensures cells { table_cells self.new ≡ after (table_cells self.old) commit (record { time = time; body = body.Register timeout }) }
         ensures places { (j : ℕ) → places_of (table_cells self.new) j ≡ places_of (table_cells self.old) j + one_of commit j }
         ensures rooms { (other : ℕ) → KeepsRoom other self.old self.new }
         ensures spare { self.old.spare ≤ self.new.spare + 1 }
@@ -225,6 +226,7 @@ impl Sessions {
         requires lent { tokens lender.old commit ≡ 1 }
         ensures sessions { self.new.sessions ≡ changed id (alive_at time seq event) self.old.sessions }
         ensures beside { self.new.beside ≡ beside_changed id (beside_alive commit event) self.old.beside }
+        ensures cells { table_cells self.new ≡ after (table_cells self.old) commit (record { time = time; body = body.Alive id seq event }) }
         ensures released { Releases (λ j. places_of (table_cells self.old) j + one_of commit j) (places_of (table_cells self.new)) commit lender.old lender.new }
         ensures rooms { (other : ℕ) → KeepsRoom other self.old self.new }
         ensures spare { self.new.spare ≡ self.old.spare }
@@ -245,6 +247,7 @@ impl Sessions {
         requires held { AreOut (places_of (table_cells self.old)) lender.old }
         ensures sessions { self.new.sessions ≡ without_id id self.old.sessions }
         ensures beside { self.new.beside ≡ filter (λ b. not (b.id == id)) self.old.beside }
+        ensures cells { (time : ℕ) (expired : Bool) → table_cells self.new ≡ after (table_cells self.old) by (record { time = time; body = body.Close id expired }) }
         ensures released { Releases (places_of (table_cells self.old)) (places_of (table_cells self.new)) by lender.old lender.new }
         ensures rooms { (other : ℕ) → other ≢ id → KeepsRoom other self.old self.new }
         ensures spare { self.old.spare ≤ self.new.spare }

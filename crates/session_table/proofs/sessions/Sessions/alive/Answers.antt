@@ -8,12 +8,13 @@ use Rattle.machine.specs.Holding.{held_by}
 use Rattle.log_model.specs.Plain.{Session}
 use Rattle.log_model.specs.Step.{changed}
 use Rattle.session_table.specs.Table.{Table, KeepsRoom, alive_at, beside_changed, beside_alive}
-use Rattle.session_table.specs.Places.{table_cells}
+use Rattle.session_table.specs.Places.{cells_of, table_cells}
 use Rattle.session_table.specs.Rows.{beside_of, seats}
 use Rattle.session_table.specs.Inside.{table}
 use Rattle.session_table.specs.declared.order.Row.{Row}
 use Rattle.session_table.proofs.Tables.{open_in, slot_filled, len_stays, session_of_seat, mapped, same_or_less}
 use Rattle.session_table.proofs.Holding.{places_in, alive_released, covered_is_lent, out_covers, Closed}
+use Rattle.session_table.proofs.CellSteps.{alive_cells_after, beside_rises, beside_there}
 use Rattle.session_table.proofs.Commits.{alive_around}
 use Rattle.session_table.proofs.sessions.Sessions.alive.Goals as goal
 
@@ -70,3 +71,10 @@ returns-clause-released c =
     let new = ap (λ o. held_by o j) c.replace-before.ensures.after in
     omega (arith, held, was, now, is, new))
     (subst (λ n. Closed c.replace-before.result n c.args.lender.now c.close_held.new.lender) c.index-by.ensures c.close_held.ensures)
+
+pub returns-clause-cells : goal.returns-clause-cells
+returns-clause-cells c =
+    let there = beside_there c.self.inside c.args.self.now c.args.id c.index_mut-row.result.now c.index_mut.result.now c.self.invariant c.self.view_is (sym c.open_place-place.ensures.row ∙ (slice_get_read c.self.inside.order.items (length c.self.inside.order.items) c.open_place-place.result c.index_mut-row.result.now refl (omega (arith, c.open_place-place.ensures.within, c.self.inside.order.ok.0)) c.index_mut-row.ensures.value)) c.index_mut.ensures.value in
+    ap cells_of (mapped (seats c.self.inside.order.items c.self.inside.slots) (seats (slice_set c.self.inside.order.items c.open_place-place.result (record { register = c.index_mut-row.result.now.register; alive = c.replace-before.new.self; slot = c.index_mut-row.result.now.slot })) (with_value c.self.inside.slots c.index_mut-row.result.now.slot c.alive.new.self)) c.args.id (record { alive = c.index_mut-row.result.now.alive; kept = c.index_mut.result.now }) (record { alive = c.replace-before.new.self; kept = c.alive.new.self }) (alive_around c.self.inside.order.items c.self.inside.slots c.args.id c.open_place-place.result c.index_mut-row.result.now (record { register = c.index_mut-row.result.now.register; alive = c.replace-before.new.self; slot = c.index_mut-row.result.now.slot }) c.index_mut.result.now c.alive.new.self c.self.invariant.rising c.self.invariant.seated c.open_place-place.ensures.row (slice_get_read c.self.inside.order.items (length c.self.inside.order.items) c.open_place-place.result c.index_mut-row.result.now refl (omega (arith, c.open_place-place.ensures.within, c.self.inside.order.ok.0)) c.index_mut-row.ensures.value) c.index_mut.ensures.value refl refl (ap (λ (x : Session). x.id) c.alive.ensures.session)).around beside_of (λ b. b.id) (λ seat. refl) (beside_alive c.args.commit c.args.event) (λ i. record { id = sym (ap (λ (x : Session). x.id) c.alive.ensures.session) i; alive = sym c.replace-before.ensures.after i; confirmed = sym c.alive.ensures.confirmed i })
+    ∙ ap (λ (t : Table). beside_changed c.args.id (beside_alive c.args.commit c.args.event) t.beside) c.self.view_is)
+    ∙ alive_cells_after c.args.self.now.beside c.args.id c.args.commit c.args.time c.args.seq c.args.event there.0 (beside_rises c.self.inside c.args.self.now c.self.invariant c.self.view_is) there.1

@@ -5,12 +5,13 @@ use Rattle.std.specs.Option.{option_map, option_map_or}
 use Rattle.slab.specs.Slab.{get, Updates}
 use Rattle.host_types.specs.Cells.{places_of}
 use Rattle.session_table.specs.Table.{Table, Room, KeepsRoom, without_id}
-use Rattle.session_table.specs.Places.{table_cells}
+use Rattle.session_table.specs.Places.{cells_of, table_cells}
 use Rattle.session_table.specs.Rows.{beside_of, seats}
 use Rattle.session_table.specs.Inside.{table}
 use Rattle.session_table.specs.declared.order.Row.{Row}
 use Rattle.session_table.proofs.Tables.{open_in, slot_filled, session_of_seat}
 use Rattle.session_table.proofs.Holding.{places_in, out_covers}
+use Rattle.session_table.proofs.CellSteps.{close_cells}
 use Rattle.session_table.proofs.Commits.{held_at, closed_around, ClosedAround, left, found_still}
 use Rattle.session_table.proofs.sessions.Sessions.close.Goals as goal
 
@@ -60,3 +61,7 @@ returns-clause-rooms c =
       replies = (let e = ap (λ o. option_map_or (λ (r : Room). r.replies) o 0) same in omega (arith, e));
       batches = (let e = ap (λ o. option_map_or (λ (r : Room). r.batches) o 0) same in omega (arith, e));
     })
+
+pub returns-clause-cells : goal.returns-clause-cells
+returns-clause-cells c =
+    λ time expired. ap cells_of (left (seats c.self.inside.order.items c.self.inside.slots) (seats c.remove.new.self.items c.remove-in-Some.new.self) c.args.id (record { alive = c.in-Some.row.alive; kept = c.remove-in-Some.result }) (subst (λ (rs : List Row). ClosedAround c.self.inside.order.items rs c.self.inside.slots c.remove-in-Some.new.self c.args.id c.in-Some.row c.remove-in-Some.result) (sym c.in-Some.ensures.items) (closed_around c.self.inside.order.items c.self.inside.slots c.remove-in-Some.new.self c.args.id c.open_place-place.result c.in-Some.row c.remove-in-Some.result c.self.invariant.rising c.self.invariant.seated c.open_place-place.ensures.row (slice_get_read c.self.inside.order.items (length c.self.inside.order.items) c.open_place-place.result c.in-Some.row refl (omega (arith, c.open_place-place.ensures.within, c.self.inside.order.ok.0)) c.in-Some.ensures.value) (ap (get c.self.inside.slots) (sym c.close_row-slot.ensures.slot) ∙ c.remove-in-Some.ensures.value) (subst (λ n. Updates c.self.inside.slots c.remove-in-Some.new.self n None) c.close_row-slot.ensures.slot c.remove-in-Some.ensures.updates))).gone beside_of (λ b. b.id) (λ seat. refl) ∙ ap (λ (t : Table). filter (λ b. not (b.id == c.args.id)) t.beside) c.self.view_is) ∙ close_cells c.args.self.now.beside c.args.id c.args.by time expired

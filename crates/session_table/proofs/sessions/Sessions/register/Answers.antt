@@ -5,6 +5,7 @@ use Rattle.log_model.specs.Plain.{Session}
 use Rattle.log_model.specs.Step.{new_session}
 use Rattle.event_batches.specs.Rising.{Rises, AreBelow}
 use Rattle.event_batches.proofs.RisingLists.{map_push}
+use Rattle.session_table.specs.Places.{cells_of}
 use Rattle.session_table.specs.Table.{Room, Table, KeepsRoom, ids}
 use Rattle.session_table.specs.Rows.{AreSeated, Seat, beside_of, room_of, held_in, seats}
 use Rattle.session_table.specs.Inside.{table}
@@ -13,6 +14,7 @@ use Rattle.session_table.proofs.Seats.{registers}
 use Rattle.session_table.proofs.Tables.{session_of_seat}
 use Rattle.session_table.proofs.Walks.{ids_of}
 use Rattle.session_table.proofs.Holding.{places_in}
+use Rattle.session_table.proofs.CellSteps.{register_cells, beside_rises, beside_below}
 use Rattle.session_table.proofs.Commits.{new_seat, held_push, rises_new, room_pushed}
 use Rattle.session_table.proofs.sessions.Sessions.register.Goals as goal
 
@@ -50,3 +52,9 @@ returns-clause-rooms c =
 
 pub returns-clause-spare : goal.returns-clause-spare
 returns-clause-spare c = omega (arith, ap (λ (t : Table). t.spare) c.self.view_is, c.push_back_reserved.ensures.len, c.push_back_reserved.ensures.capacity, c.insert_reserved-slot.ensures.len, c.insert_reserved-slot.ensures.capacity)
+
+pub returns-clause-cells : goal.returns-clause-cells
+returns-clause-cells c =
+    ap cells_of (ap (map beside_of) (ap (λ (rs : List Row). seats rs c.insert_reserved-slot.new.self) c.push_back_reserved.ensures.items ∙ (new_seat c.self.inside.order.items c.self.inside.slots c.insert_reserved-slot.new.self (record { register = c.args.commit; alive = None; slot = c.insert_reserved-slot.result }) c.new-session.result c.self.invariant.seated c.insert_reserved-slot.ensures.was_vacant c.insert_reserved-slot.ensures.updates (ap (λ (x : Session). x.id) c.new-session.ensures.session ∙ c.index.ensures)).seats) ∙ map_push beside_of (seats c.self.inside.order.items c.self.inside.slots) (record { alive = None; kept = c.new-session.result })
+    ∙ (λ i. (ap (λ (t : Table). t.beside) c.self.view_is) i ++ record { id = (ap (λ (x : Session). x.id) c.new-session.ensures.session ∙ c.index.ensures) i; alive = None; confirmed = (c.new-session.ensures.confirmed ∙ c.index.ensures) i } ∷ []))
+    ∙ register_cells c.args.self.now.beside c.args.commit c.args.time c.args.timeout (beside_rises c.self.inside c.args.self.now c.self.invariant c.self.view_is) (beside_below c.self.inside c.args.self.now c.args.commit c.self.invariant c.self.view_is c.requires.above)
