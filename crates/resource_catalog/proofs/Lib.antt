@@ -1,0 +1,14 @@
+pub mod Applied
+pub mod Asked
+pub mod Created
+pub mod Deleted
+pub mod Effects
+pub mod Entries
+pub mod Places
+pub mod Keeps
+pub mod Kept
+pub mod Loops
+pub mod Released
+pub mod Search
+pub mod Texts
+pub mod Whole

@@ -1,0 +1,11 @@
+//! Named resources of every kind as one machine.
+#![tactic(auto)]
+
+mod catalog;
+mod kinds;
+mod names;
+mod slots;
+mod sorted;
+
+pub use catalog::Catalog;
+pub use kinds::AnyResource;
