@@ -1,22 +1,23 @@
 -- What a core keeps, it keeps after each entry.
-use Rattle.std.proofs.Common.{None, Result, ltb-true, ◌≡◌, ℕ, ◌+◌, ◌<◌, ◌≤◌, true, false, cond, not, ◌&&◌, ◌==◌, nat_lt, List, [], ◌∷◌, ◌++◌, refl, sym, ap, subst, ◌∙◌, arith}
-use Rattle.std.specs.List.{filter, AllByRecursion}
+use Rattle.std.proofs.Common.{Bool, Option, Some, None, Ok, Err, Result, ltb-true, ◌≡◌, ℕ, ◌+◌, ◌<◌, ◌≤◌, true, false, cond, not, ◌&&◌, ◌==◌, nat_lt, List, [], ◌∷◌, ◌++◌, refl, sym, ap, subst, ◌∙◌, arith}
+use Rattle.std.specs.Prelude.{IfOk, IfSome}
+use Rattle.std.specs.List.{filter, find, AllByRecursion}
 use Rattle.host_types.specs.declared.entry.Body.{Body}
 use Rattle.host_types.specs.declared.entry.Body.TheVariants.{Register, Alive, Close, Tick, Command}
 use Rattle.host_types.specs.declared.entry.Entry.{Entry}
 use Rattle.host_types.specs.Cells.{Cells, places_of}
-use Rattle.host_types.specs.Decision.{MachineDecision}
-use Rattle.host_types.specs.Ranges.{EntryFits, IsInRange}
+use Rattle.host_types.specs.Decision.{MachineDecision, MachineIsLawful}
+use Rattle.host_types.specs.Ranges.{EntryFits, IsInRange, IsIndex, OfferFits}
 use Rattle.host_types.specs.declared.entry.Ask.{Ask}
 use Rattle.machine.specs.Release.{AreOut}
-use Rattle.host_core.specs.Answers.{Decides_as, Judges, asked_admission, asked_body}
+use Rattle.host_core.specs.Answers.{Decides_as, IsStorable, Judges, asked_admission, asked_body}
 use Rattle.std.proofs.lemmas.Bool.{false_from_ne_true}
 use Rattle.host_types.specs.declared.entry.Offer.{Offer}
 use Rattle.host_types.specs.declared.entry.Refusal.TheVariants.{Time}
 use Rattle.host_core.specs.declared.deciding.Asked.{Asked}
 use Rattle.host_core.specs.declared.deciding.Decided.{Decided}
 use Rattle.host_core.specs.declared.deciding.DecideError.{DecideError}
-use Rattle.log_model.specs.Admission.{Offered, Admission, admits_asked, admits_more, due_in, first_refusal, refused_due, refused_if}
+use Rattle.log_model.specs.Admission.{Offered, Admission, admits_asked, admits_more, due_in, is_due, first_refusal, refused_due, refused_if}
 use Rattle.log_model.specs.Stored.{body_of}
 use Rattle.commit_lending.specs.Lent.{Lent, tokens, one_of}
 use Rattle.log_model.specs.Cells.{after}
@@ -25,8 +26,11 @@ use Rattle.log_model.specs.Step.{changed, new_session, with_reply}
 use Rattle.log_model.specs.Hosted.{hosted_admits, hosted_command, hosted_entry, hosted_declined, hosted_told, machine_cells}
 use Rattle.log_model.specs.Parts.{machine_after, session_cells}
 use Rattle.log_model.specs.Replay.{noted, replay_alive, replay_batches, replay_reply, replay_sessions, replay_entry}
-use Rattle.log_model.specs.Sound.{IsSound}
+use Rattle.log_model.specs.Sound.{IsSessionSound, IsSound}
 use Rattle.log_model.proofs.Free.{index_free}
+use Rattle.log_model.proofs.OfMachines.{admitted_in_range}
+use Rattle.log_model.specs.Stored.{is_admission}
+use Rattle.host_core.specs.declared.deciding.Decided.TheVariants as decided
 use Rattle.log_model.proofs.Parts.{part_follows}
 use Rattle.log_model.proofs.Lookups.{T_from}
 use Rattle.log_model.proofs.Sounds.{entry_sound, each_append, each_filter, each_map}
@@ -79,6 +83,14 @@ silent_after cut i time (Command session seq effect reply) ss a =
     silent_change session (replay_reply cut seq i reply) (λ x e. elim (nat_lt cut i && nat_lt x.seq seq) as (λ b. (cond b (with_reply seq i reply x) (noted seq x)).batches ≡ []) [ true ↦ e | false ↦ e ]) (replay_batches cut i [] ss)
     (subst (AllByRecursion (λ (x : Session). x.batches ≡ [])) (sym (untold cut i ss)) a)
 
+found_has : (f : Session → Bool) (last : ℕ) (ss : List Session) → AllByRecursion (IsSessionSound last) ss → (x : Session) → find f ss ≡ Some x → IsSessionSound last x
+found_has f last [] a x e = absurd (cc)
+found_has f last (y ∷ ss) a x e =
+    elim (f y) as (λ b. cond b (Some y) (find f ss) ≡ Some x → IsSessionSound last x) [
+      | true ↦ λ e. let same : y ≡ x = (cc) in subst (IsSessionSound last) same a.0
+      | false ↦ λ e. found_has f last ss a.1 x e
+    ] e
+
 module _ {M : Type 0} (cells : M → Cells) (d : MachineDecision) (s : Seen M) (k : IsKept cells d s) where
   -- nothing of the next index is out
   pub absent : (index : ℕ) → s.last < index → tokens s.lender index ≡ 0
@@ -124,6 +136,34 @@ module _ {M : Type 0} (cells : M → Cells) (d : MachineDecision) (s : Seen M) (
       passed =
           (λ j. first_refusal (refused_if (false_from_ne_true (nat_lt o.time s.time) (λ e. let early = ltb-true o.time s.time e in omega (arith, early, in_time)) j) (Time s.time) ∷ refused_due (due_in o.time s.sessions.sessions) ∷ admits_asked s.sessions.sessions (hosted_declined d (hosted cells s)) o.ask ∷ admits_more s.last ∷ []))
           ∙ ap (λ due. first_refusal (refused_due due ∷ admits_asked s.sessions.sessions (hosted_declined d (hosted cells s)) o.ask ∷ admits_more s.last ∷ [])) nobody
+
+  -- who is due has a session's id
+  pub due_is_index : (time id : ℕ) → due_in time s.sessions.sessions ≡ Some id → IsIndex id
+  due_is_index time id e = go (find (is_due time) s.sessions.sessions) refl e
+    where
+      go : (o : Option Session) → find (is_due time) s.sessions.sessions ≡ o → elim o as (λ _. Option ℕ) [ None ↦ None | Some x ↦ Some x.id ] ≡ Some id → IsIndex id
+      go None f e = absurd (cc)
+      go (Some x) f e =
+          let sound = found_has (is_due time) s.last s.sessions.sessions k.sound.sessions_are x f in
+          let same : x.id ≡ id = (cc) in
+          let low = sound.id.0 in
+          let high = sound.id.1 in
+          let most = k.sound.last_in_range in
+          (omega (arith, same, low), omega (arith, same, high, most))
+
+  pub all_due : (time : ℕ) (o : Option ℕ) → o ≡ due_in time s.sessions.sessions → IfSome o IsIndex
+  all_due time None e = tt
+  all_due time (Some id) e = due_is_index time id (sym e)
+
+  -- what is to be stored is in range
+  pub storable : MachineIsLawful d → (o : Offer) → OfferFits o → (r : Decided) → Decides_as (hosted_admits d (hosted cells s) o) (hosted_entry d (hosted cells s) (Offered o)) (Ok r) → IsStorable (s.last + 1) r
+  storable lawful o fit (decided.Store entry) (is_admitted, is_entry) =
+      subst (λ (e : Entry). EntryFits e × IsInRange (s.last + 1) e) (sym is_entry) (admitted_in_range d (hosted cells s) (Offered o) lawful k.sound fit (ap is_admission is_admitted))
+  storable lawful o fit (decided.Repeat reply) repeats = tt
+
+  pub storable_all : MachineIsLawful d → (o : Offer) → OfferFits o → (r : Result Decided DecideError) → Decides_as (hosted_admits d (hosted cells s) o) (hosted_entry d (hosted cells s) (Offered o)) r → IfOk r (IsStorable (s.last + 1))
+  storable_all lawful o fit (Ok r) decides = storable lawful o fit r decides
+  storable_all lawful o fit (Err why) decides = tt
 
   module _ (index cut : ℕ) (e : Entry) (behind : s.last < index) (fits : EntryFits e) (range : IsInRange index e) (machine : M) (table : Table) (lent lent' : Lent)
       (entered : Entered index e cut (cells s.machine) (cells machine) s.sessions table lent) (out : lent'.out ≡ lent.out) (closed : lent'.closed ≡ []) where

@@ -6,6 +6,7 @@ use Rattle.host_types.specs.declared.entry.Entry.{Entry}
 use Rattle.host_types.specs.declared.entry.Op.{Op}
 use Rattle.host_types.specs.declared.entry.Refusal.TheVariants as refusals
 use Rattle.host_types.specs.declared.entry.Reply.{Reply}
+use Rattle.host_types.specs.Ranges.{EntryFits, IsInRange}
 use Rattle.host_types.specs.Cells.{Cells}
 use Rattle.host_types.specs.Decision.{Choice, MachineDecision}
 use Rattle.machine.specs.declared.decision.Refuse.{Refuse}
@@ -31,6 +32,11 @@ abbrev pub Decides_as : Admission → Entry → Result Decided DecideError → T
 Decides_as admission entry (Ok (decided.Store stored)) = (admission ≡ Admitted) × (stored ≡ entry)
 Decides_as admission entry (Ok (decided.Repeat reply)) = admission ≡ Repeats reply
 Decides_as admission entry (Err why) = IsWhy admission why
+
+-- what is to be stored at this index has its numbers in range
+abbrev pub IsStorable : ℕ → Decided → Type 0
+IsStorable index (decided.Store entry) = EntryFits entry × IsInRange index entry
+IsStorable index (decided.Repeat reply) = Unit {0}
 
 -- the same of what is asked
 abbrev pub Judges : Admission → Body → Result Asked DecideError → Type 0

@@ -1,10 +1,10 @@
 // The core of a host: its machine, its sessions and its commits.
-ghost use Rattle.std.specs.Prelude.{◌≡◌, ℕ, ◌≤◌, ◌<◌, ◌+◌, [], IfOk, OnOk, OnErr};
-ghost use Rattle.host_types.specs.Ranges.{EntryFits, IsInRange};
-ghost use Rattle.log_model.specs.Admission.{Offered};
+ghost use Rattle.std.specs.Prelude.{◌≡◌, ℕ, ◌≤◌, ◌<◌, ◌+◌, [], IfOk, IfSome, OnOk, OnErr};
+ghost use Rattle.host_types.specs.Ranges.{EntryFits, IsInRange, IsIndex};
+ghost use Rattle.log_model.specs.Admission.{Offered, due_in};
 ghost use Rattle.log_model.specs.Hosted.{hosted_admits, hosted_entry, hosted_nothing, hosted_quiet, hosted_told};
 ghost use Rattle.log_model.specs.Replay.{replay_entry};
-ghost use Rattle.host_core.specs.Answers.{Decides_as};
+ghost use Rattle.host_core.specs.Answers.{Decides_as, IsStorable};
 ghost use Rattle.host_core.specs.Seen.{IsPrepared, TellsNothing, hosted};
 
 use crate::deciding::{DecideError, Decided, decide_ask, decide_at_end};
@@ -98,15 +98,26 @@ impl<M: Machine> Core<M> {
         self.sessions.quiet(self.last)
     }
 
+    /// The least id of a session that is due at this time. None comes exactly where nobody is due.
+    pub fn due(&self, time: Time) -> Option<Index>
+        ensures due { result ≡ due_in time (hosted M.cells self.now).sessions }
+        ensures range { IfSome result IsIndex }
+    {
+        self.sessions.due(time)
+    }
+
     /// Decides an offer: it is stored as an entry, or it repeats a command whose reply is kept, or it is refused. Every refusal comes
     /// exactly by its cause, the first cause alone. Nothing is changed.
     pub fn decide(&self, alloc: Global, offer: &Offer) -> Result<Decided, DecideError>
-        ensures { Decides_as (hosted_admits M.decides (hosted M.cells self.now) offer.now) (hosted_entry M.decides (hosted M.cells self.now) (Offered offer.now)) result }
+        ensures decided { Decides_as (hosted_admits M.decides (hosted M.cells self.now) offer.now) (hosted_entry M.decides (hosted M.cells self.now) (Offered offer.now)) result }
+        // What is to be stored has its numbers in range.
+        ensures range { IfOk result (IsStorable (self.now.last + 1)) }
     {
+        offer.fits();
         if offer.time < self.time {
             return Err(DecideError::Refused(Refusal::Time { now: self.time }));
         }
-        if let Some(session) = self.sessions.due(offer.time) {
+        if let Some(session) = self.due(offer.time) {
             return Err(DecideError::Refused(Refusal::Due { session }));
         }
         let asked = decide_ask(
