@@ -260,17 +260,3 @@ module _ (id : ℕ) where
       go : (0 < id) ⊎ (id ≤ 0) → Behind nothing_yet id
       go (inl l) = inr (l, refl, refl)
       go (inr l) = inl l
-
-  grow_from : (s : State) (xs ys : List Item) (previous : ℕ) → (rest : List Batch) × (batches_from s (xs ++ ys) id previous ≡ batches_from s xs id previous ++ rest)
-  grow_from s [] ys previous = (batches_from s ys id previous, refl)
-  grow_from s (x ∷ xs) ys previous =
-      let es = given id s x in
-      let r = grow_from (step s x) xs ys (batch_index (s.last + 1) previous es) in
-      (r.0, ap (batch_list (s.last + 1) previous es) r.1 ∙ outside es (batches_from (step s x) xs id (batch_index (s.last + 1) previous es)) r.0)
-    where
-      outside : (es : List Event) (bs more : List Batch) → batch_list (s.last + 1) previous es (bs ++ more) ≡ batch_list (s.last + 1) previous es bs ++ more
-      outside [] bs more = refl
-      outside (e ∷ es) bs more = refl
-
-  pub grow : (xs ys : List Item) → (rest : List Batch) × (batches (xs ++ ys) id ≡ batches xs id ++ rest)
-  grow xs ys = grow_from nothing_yet xs ys id

@@ -1,5 +1,5 @@
 -- What a rising list of batches shows.
-use Rattle.std.proofs.Common.{◌≡◌, ℕ, suc, ◌-◌, ◌<◌, ◌==◌, ◌||◌, Bool, true, false, cond, nat_lt, nat_le, List, [], ◌∷◌, ◌++◌, map, Option, Some, None, refl, sym, ap, subst, ◌∙◌, inl, inr, drop, length, Bor, arith, ltb-true, eqb-true, eq-eqb}
+use Rattle.std.proofs.Common.{◌≡◌, ℕ, suc, ◌-◌, ◌<◌, ◌==◌, ◌||◌, Bool, true, false, cond, nat_lt, nat_le, List, [], ◌∷◌, ◌++◌, map, Option, Some, None, refl, sym, ap, subst, ◌∙◌, inl, inr, drop, length, Bor, arith, ltb-true, eqb-true}
 use Rattle.std.proofs.lemmas.Bool.{cases_lt, false_from_ne_true}
 use Rattle.std.specs.List.{filter, find, slice_get}
 use Rattle.std.specs.Option.{option_map, option_map_or, option_copied}
@@ -100,9 +100,6 @@ next_is event acked confirmed items r chain found other =
     lent_is event r ∙ through_batch event (option_copied r)
     ∙ ap (λ (o : Option model.Batch). option_map_or (λ b. b.index == event) o false) (served_is acked confirmed items (option_copied r) chain found)
     ∙ ap (λ b. b || option_map_or (λ (b : model.Batch). b.index == event) (served acked confirmed (map as_kept items)) false) (sym (false_from_ne_true (event == confirmed) (λ t. other (eqb-true event confirmed t))))
-
-pub same_confirms : (event acked confirmed : ℕ) (bs : List Kept_batch) → event ≡ confirmed → true ≡ can_confirm event acked confirmed bs
-same_confirms event acked confirmed bs e = ap (λ b. b || option_map_or (λ (b : model.Batch). b.index == event) (served acked confirmed bs) false) (sym (eq-eqb event confirmed e))
 
 pub last_is : (low : ℕ) (items : List Batch) (b : Batch) → slice_get items (length items - 1) ≡ Some b → b.index ≡ last_of low (map (λ b. b.index) items)
 last_is low [] b e = absurd (cc)

@@ -115,10 +115,6 @@ pub map_push : {A B : Type 0} (f : A → B) (xs : List A) (x : A) → map f (xs 
 map_push f [] x = refl
 map_push f (y ∷ xs) x = ap (λ ys. f y ∷ ys) (map_push f xs x)
 
-pub first_is : {X : Type 0} (xs : List X) (x : X) → slice_get xs 0 ≡ Some x → xs ≡ x ∷ drop 1 xs
-first_is [] x e = absurd (cc)
-first_is (y ∷ xs) x e = let same : y ≡ x = (cc) in ap (λ z. z ∷ xs) same
-
 pub found_passes : {A : Type 0} (p : A → Bool) (xs : List A) (x : A) → find p xs ≡ Some x → p x ≡ true
 found_passes p [] x e = absurd (cc)
 found_passes {A} p (y ∷ xs) x e = go (p y) refl e (found_passes p xs x)

@@ -1,5 +1,5 @@
-use Rattle.std.proofs.Common.{◌≡◌, ◌+◌, ◌∙◌, ◌++◌, ◌∷◌, [], ℕ, refl, ap, sym, subst}
-use Rattle.session_table.specs.Places.{cells_of, table_cells}
+use Rattle.std.proofs.Common.{◌+◌, refl, subst}
+use Rattle.session_table.specs.Places.{table_cells}
 use Rattle.commit_lending.specs.Lent.{one_of}
 use Rattle.host_types.specs.Cells.{places_of}
 use Rattle.machine.specs.Release.{Releases}

@@ -1,5 +1,3 @@
-use Rattle.std.proofs.Common.{◌≡◌, ◌+◌, ◌∙◌, ◌++◌, ◌∷◌, [], ℕ, refl, ap, sym, subst}
-use Rattle.session_table.specs.Places.{cells_of, table_cells}
 use Rattle.session_table.proofs.TestLaws.{close_sound}
 use Rattle.session_table.proofs.tests.Desk.close.Goals as goal
 

@@ -1,5 +1,5 @@
-use Rattle.std.proofs.Common.{◌≡◌, ◌+◌, ◌∙◌, ◌++◌, ◌∷◌, [], ℕ, refl, ap, sym, subst}
-use Rattle.session_table.specs.Places.{cells_of, table_cells}
+use Rattle.std.proofs.Common.{◌+◌, ◌∙◌, refl, ap, sym}
+use Rattle.session_table.specs.Places.{cells_of}
 use Rattle.session_table.proofs.TestLaws.{stays_sound, reply_sound, newer_reply}
 use Rattle.session_table.proofs.tests.Desk.keep.Goals as goal
 

@@ -1,5 +1,5 @@
-use Rattle.std.proofs.Common.{◌≡◌, ◌+◌, ◌∙◌, ◌++◌, ◌∷◌, [], ℕ, refl, ap, sym, subst}
-use Rattle.session_table.specs.Places.{cells_of, table_cells}
+use Rattle.std.proofs.Common.{refl, ap}
+use Rattle.session_table.specs.Places.{cells_of}
 use Rattle.session_table.proofs.TestLaws.{stays_sound, batch_sound, newer_batch}
 use Rattle.session_table.proofs.tests.Desk.push.Goals as goal
 

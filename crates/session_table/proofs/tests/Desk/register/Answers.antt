@@ -1,4 +1,4 @@
-use Rattle.std.proofs.Common.{◌≡◌, ◌+◌, ◌∙◌, ◌++◌, ◌∷◌, [], ℕ, refl, ap, sym, subst}
+use Rattle.std.proofs.Common.{◌+◌, ◌∙◌, ◌++◌, ◌∷◌, [], ap}
 use Rattle.session_table.specs.Places.{cells_of, table_cells}
 use Rattle.commit_lending.specs.Lent.{one_of}
 use Rattle.host_types.specs.Cells.{places_of}
