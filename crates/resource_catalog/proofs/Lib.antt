@@ -10,5 +10,6 @@ pub mod Kept
 pub mod Loops
 pub mod Released
 pub mod Search
+pub mod TestLemmas
 pub mod Texts
 pub mod Whole

@@ -5,3 +5,4 @@ pub mod Parts
 pub mod Seen
 pub mod Sorted
 pub mod Steps
+pub mod TestSteps

@@ -6,6 +6,8 @@ mod kinds;
 mod names;
 mod slots;
 mod sorted;
+#[cfg(test)]
+mod tests;
 
 pub use catalog::Catalog;
 pub use kinds::AnyResource;

@@ -1,0 +1,12 @@
+-- What the tests say of the cells of a machine whose next entry has a certain index.
+use Rattle.std.specs.Prelude.{◌≡◌, ℕ, Bool, true, ◌&&◌, nat_lt, IsTrue}
+use Rattle.std.specs.List.{list_all}
+use Rattle.host_types.specs.Cells.{Place, Cell_at, Held, Cells}
+
+abbrev pub is_earlier : ℕ → Place × Held → Bool
+is_earlier next (Cell_at m cell, held) = nat_lt m next && nat_lt held.index next
+is_earlier next (place, held) = nat_lt held.index next
+
+-- all that stands is of earlier entries, in instances of earlier entries
+abbrev pub AreEarlier : ℕ → Cells → Type 0
+AreEarlier next cells = IsTrue (list_all (is_earlier next) cells)
