@@ -4,10 +4,11 @@ pub mod Created
 pub mod Deleted
 pub mod Effects
 pub mod Entries
-pub mod Places
 pub mod Keeps
 pub mod Kept
 pub mod Loops
+pub mod Places
+pub mod PlainLaws
 pub mod Released
 pub mod Search
 pub mod TestLemmas

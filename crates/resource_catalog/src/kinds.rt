@@ -6,13 +6,17 @@ ghost use Rattle.commit_lending.specs.Lent.{tokens, one_of};
 ghost use Rattle.machine.specs.Answers.{Resolves, Looks};
 ghost use Rattle.machine.specs.Listing.{listed};
 ghost use Rattle.machine.specs.Release.{AreOut, Releases, Retires};
+ghost use Rattle.resource_catalog.specs.PlainNames.{KindsArePlain};
 ghost use Rattle.resource_catalog.specs.Kinds.{any_kind, any_instance, any_cells, AnyIsReady, decision_of, is_built};
 
 use commit_lending::{Commit, Lender};
 use host_types::{Effect, Index, Key, Kind, NoMemory, Op, Reply};
 use machine::{Decision, Place, Refuse, Resource, Told};
 use std::alloc::Global;
-use value_counter::{CounterCell, ValueCell};
+use value_counter::{
+    CounterCell, ValueCell, counter_is_plain, counter_keeps_showing, value_is_plain,
+    value_keeps_showing,
+};
 
 /// A resource of one of the kinds that are built.
 pub enum AnyResource {
@@ -28,6 +32,16 @@ pub(crate) fn is_built(kind: Kind) -> bool
         Kind::Value | Kind::Counter => true,
         _ => false,
     }
+}
+
+/// Each kind that is built decides as its plain form does, and its cells go on to show it.
+pub fn kinds_are_plain()
+    ensures { KindsArePlain }
+{
+    value_is_plain();
+    value_keeps_showing();
+    counter_is_plain();
+    counter_keeps_showing();
 }
 
 impl AnyResource {
