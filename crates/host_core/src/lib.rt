@@ -7,3 +7,6 @@ mod state;
 
 pub use deciding::{DecideError, Decided};
 pub use state::{Core, Prepared};
+
+#[cfg(test)]
+mod tests;
