@@ -1,15 +1,14 @@
 -- What follows where a commit stands before a host's machine and sessions.
-use Rattle.std.proofs.Common.{lt-ltb, ltb-true, nat_le, nat_lt, max, ◌≡◌, ℕ, ◌+◌, ◌<◌, ◌≤◌, Bool, true, false, cond, not, ◌&&◌, ◌==◌, T, List, [], ◌∷◌, ◌++◌, map, Option, Some, None, is_some, refl, sym, ap, subst, ◌∙◌, arith}
+use Rattle.std.proofs.Common.{lt-ltb, ltb-true, nat_le, nat_lt, max, ◌≡◌, ℕ, ◌+◌, ◌<◌, ◌≤◌, Bool, true, false, cond, not, ◌&&◌, ◌==◌, List, [], ◌∷◌, ◌++◌, map, Option, Some, None, is_some, refl, sym, ap, subst, ◌∙◌, arith}
 use Rattle.std.proofs.lemmas.Bool.{false_from_ne_true, ltb-false}
 use Rattle.std.specs.Option.{option_map}
 use Rattle.std.specs.List.{filter, find, list_any, AllByRecursion}
-use Rattle.std.specs.FinMap.{is_sorted}
 use Rattle.host_types.specs.declared.entry.Body.{Body}
 use Rattle.host_types.specs.declared.entry.Body.TheVariants.{Register, Alive, Close, Command}
 use Rattle.host_types.specs.declared.entry.Effect.{Effect}
 use Rattle.host_types.specs.declared.entry.Effect.TheVariants.{Nothing, Create, Delete, Put, Drop, Wipe, WipeKey, Tell}
 use Rattle.host_types.specs.declared.entry.Reply.{Reply}
-use Rattle.host_types.specs.Cells.{Register_at, marked, place_cmp, Cells, at, stands, places_of, is_in_instance, without_owner}
+use Rattle.host_types.specs.Cells.{Register_at, marked, Cells, at, stands, places_of, is_in_instance, without_owner}
 use Rattle.commit_lending.specs.Lent.{Lent, tokens, one_of}
 use Rattle.machine.specs.Release.{AreOut, CreatesAnew}
 use Rattle.event_batches.specs.Rising.{AreBelow}
@@ -21,18 +20,16 @@ use Rattle.log_model.specs.Step.{changed, new_session, with_reply}
 use Rattle.log_model.specs.Replay.{noted, pushed, replay_alive, replay_batches, replay_reply}
 use Rattle.log_model.proofs.Admitted.{changed_same}
 use Rattle.log_model.proofs.Free.{index_free}
-use Rattle.log_model.proofs.Lookups.{T_from}
-use Rattle.log_model.proofs.OneSession.{open_is}
 use Rattle.log_model.specs.Cells.{after}
 use Rattle.log_model.proofs.Sounds.{each_weaker, each_found}
 use Rattle.session_table.specs.declared.view.SessionView.{SessionView}
 use Rattle.session_table.specs.Asked.{NewerReply}
-use Rattle.session_table.specs.Table.{Beside, Table, ids, beside_changed, beside_alive, alive_at, confirmed_of, view_of, view_at, session_at}
+use Rattle.session_table.specs.Table.{Beside, Table, ids, alive_at, confirmed_of, view_of, view_at, session_at}
 use Rattle.session_table.specs.Places.{cells_of, table_cells}
 use Rattle.host_core.specs.Entering.{AreKeptBefore, Entered, IsOut, Meets, has_owner}
 use Rattle.host_core.proofs.Parts.{at_sessions}
 use Rattle.host_core.proofs.Standing.{places-append, commit_out, machine_out, table_out}
-use Rattle.host_core.proofs.Tables.{AreRising, AreBefore, rising, each_stands, stands_found, found_stands, registered, heard_of, not_heard, ended, not_ended}
+use Rattle.host_core.proofs.Tables.{found_stands, not_heard, ended, not_ended}
 
 module _ (index : ℕ) (machine : Cells) (table : Table) (lent : Lent) (m : Meets index machine table lent) where
   abbrev all : Cells
@@ -112,32 +109,7 @@ module _ (index : ℕ) (machine : Cells) (table : Table) (lent : Lent) (m : Meet
 
   -- ---- the places of the sessions
 
-  sorted : T (is_sorted place_cmp all)
-  sorted = T_from _ m.sound.cells_rise
-
-  pub besides_rise : AreRising table.beside
-  besides_rise = rising machine table.beside sorted
-
-  pub besides_are_before : AreBefore index table.beside
-  besides_are_before = each_weaker (λ (b : Beside). stands (table_cells table) (Register_at b.id) ≡ true) (λ (b : Beside). b.id < index) (λ b there. one b.id (sym (table_stands b.id) ∙ there)) table.beside (each_stands table.beside)
-    where
-      one : (id : ℕ) → is_some (session_in id table.sessions) ≡ true → id < index
-      one id there = go (session_in id table.sessions) refl there
-        where
-          go : (o : Option Session) → session_in id table.sessions ≡ o → is_some o ≡ true → id < index
-          go None f e = absurd (cc)
-          go (Some x) f e =
-              let past = (each_found (IsSessionSound m.last) table.sessions m.sound.sessions_are id x f).id.1 in
-              let low = m.behind in
-              let same = open_is id table.sessions x f in
-              omega (arith, past, low, same)
-
-  -- a keep-alive of an open session, and one of another
-  pub alive_follows : (id time seq event : ℕ) → is_some (session_in id table.sessions) ≡ true → cells_of (beside_changed id (beside_alive index event) table.beside) ≡ after (table_cells table) index (record { time = time; body = Alive id seq event })
-  alive_follows id time seq event there =
-      let placed = table_stands id ∙ there in
-      heard_of id index event table.beside time seq besides_rise (stands_found id table.beside placed) placed
-
+  -- a keep-alive of another than an open session
   pub alive_stays : (id time seq event : ℕ) → session_in id table.sessions ≡ None → table_cells table ≡ after (table_cells table) index (record { time = time; body = Alive id seq event })
   alive_stays id time seq event none = not_heard (table_cells table) index time id seq event (table_stands id ∙ ap is_some none)
 
@@ -288,11 +260,11 @@ module _ (index time cut : ℕ) (machine : Cells) (table : Table) (lent : Lent) 
   abbrev pub Done : Body → Cells → Table → Lent → Type 0
   Done b machine' table' lent' = Entered index (record { time = time; body = b }) cut machine machine' table table' lent'
 
-  pub entered_register : (timeout : ℕ) (table' : Table) → table'.sessions ≡ table.sessions ++ new_session index time timeout ∷ [] → table'.beside ≡ table.beside ++ record { id = index; alive = None; confirmed = index } ∷ []
+  pub entered_register : (timeout : ℕ) (table' : Table) → table'.sessions ≡ table.sessions ++ new_session index time timeout ∷ [] → table_cells table' ≡ after (table_cells table) index (record { time = time; body = Register timeout })
       → ((j : ℕ) → places_of (table_cells table') j ≡ places_of (table_cells table) j + one_of index j) → Done (Register timeout) machine table' lent
-  entered_register timeout table' sessions beside places = record {
+  entered_register timeout table' sessions table_is places = record {
     machine_is = refl;
-    table_is = ap cells_of beside ∙ registered table.beside (record { id = index; alive = None; confirmed = index }) time timeout refl (besides_are_before index machine table lent m);
+    table_is = table_is;
     sessions_are = sessions;
     out = λ j. (let all = m.out j in let more = places j in omega (arith, all, more));
   }

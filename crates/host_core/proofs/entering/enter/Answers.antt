@@ -15,7 +15,7 @@ pub returns-in-Register : goal.returns-in-Register
 returns-in-Register κs c =
     subst (λ b. Entered c.args.commit (record { time = c.args.entry.time; body = b }) c.args.cut (κs.M.Machine.cells c.args.machine.now) (κs.M.Machine.cells c.args.machine.now) c.args.sessions.now c.register.new.self c.args.lender.now) (sym c.in-Register.is)
     (entered_register c.args.commit c.args.entry.time c.args.cut (κs.M.Machine.cells c.args.machine.now) c.args.sessions.now c.args.lender.now c.requires.meets c.in-Register.timeout c.register.new.self
-    c.register.ensures.sessions c.register.ensures.beside c.register.ensures.places)
+    c.register.ensures.sessions c.register.ensures.cells c.register.ensures.places)
 
 pub returns-in-Alive : goal.returns-in-Alive
 returns-in-Alive κs c =

@@ -4,7 +4,7 @@ use Rattle.session_table.specs.Table.{alive_at}
 use Rattle.session_table.specs.Places.{cells_of}
 use Rattle.log_model.specs.Step.{changed}
 use Rattle.log_model.specs.Replay.{noted}
-use Rattle.host_core.proofs.Meeting.{none_of_table, changed_none, shut, open_changed, heard_as, alive_follows, alive_stays, is_open}
+use Rattle.host_core.proofs.Meeting.{none_of_table, changed_none, shut, open_changed, heard_as, alive_stays, is_open}
 use Rattle.host_core.proofs.entering.enter_alive.Goals as goal
 
 pub returns-then-is_none-clause-sessions : goal.returns-then-is_none-clause-sessions
@@ -30,10 +30,7 @@ returns-clause-sessions c =
     ∙ heard_as c.args.session c.args.time c.args.seq c.args.event c.args.sessions.now.sessions c.requires.meets.1.silent
 
 pub returns-clause-table : goal.returns-clause-table
-returns-clause-table c =
-    ap cells_of (c.note.ensures.beside ∙ c.alive.ensures.beside)
-    ∙ alive_follows c.args.commit c.requires.meets.0 c.args.sessions.now c.args.lender.now c.requires.meets.1 c.args.session c.args.time c.args.seq c.args.event
-    (sym (is_open c.args.session c.args.sessions.now) ∙ ap is_some (sym c.find.ensures) ∙ c.if-is_none.ensures)
+returns-clause-table c = ap cells_of c.note.ensures.beside ∙ c.alive.ensures.cells
 
 pub returns-clause-out : goal.returns-clause-out
 returns-clause-out c machine meets j =

@@ -1,7 +1,6 @@
 use Rattle.std.proofs.Common.{sym, ap, ◌∙◌, is_some}
-use Rattle.session_table.specs.Places.{cells_of, table_cells}
+use Rattle.session_table.specs.Places.{table_cells}
 use Rattle.host_core.proofs.Meeting.{shut, without_none, end_stays}
-use Rattle.host_core.proofs.Tables.{ended}
 use Rattle.host_core.proofs.entering.enter_close.Goals.{then-is_some, else-is_some}
 use Rattle.host_core.proofs.entering.enter_close.Goals as goal
 
@@ -15,7 +14,7 @@ returns-clause-sessions κs c = elim c.if-is_some.branch [
 
 pub returns-clause-table : goal.returns-clause-table
 returns-clause-table κs c time expired = elim c.if-is_some.branch [
-  | then-is_some w ↦ ap table_cells w.sessions-is ∙ ap cells_of w.close.ensures.beside ∙ ended c.args.session expired c.args.sessions.now.beside c.args.commit time
+  | then-is_some w ↦ ap table_cells w.sessions-is ∙ w.close.ensures.cells time expired
   | else-is_some w ↦
       ap table_cells w.sessions-is
       ∙ end_stays c.args.commit (κs.M.Machine.cells c.args.machine.now) c.args.sessions.now c.args.lender.now c.requires.meets c.args.session time expired
