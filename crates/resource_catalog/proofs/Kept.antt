@@ -223,7 +223,7 @@ whole_counted names slots are =
 
 -- ---- no kind that is built tells at the end of a session
 
-closes_nothing : (kind : Kind) (m : ℕ) (c : Cells) (name : List ℕ) (owner : ℕ) → (decision_of kind).tells_close m c name owner ≡ []
+pub closes_nothing : (kind : Kind) (m : ℕ) (c : Cells) (name : List ℕ) (owner : ℕ) → (decision_of kind).tells_close m c name owner ≡ []
 closes_nothing kinds.Value m c name owner = refl
 closes_nothing kinds.Counter m c name owner = refl
 closes_nothing _ m c name owner = refl

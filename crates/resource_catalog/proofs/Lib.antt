@@ -1,5 +1,6 @@
 pub mod Applied
 pub mod Asked
+pub mod Counted
 pub mod Created
 pub mod Deleted
 pub mod Effects
@@ -9,6 +10,7 @@ pub mod Kept
 pub mod Loops
 pub mod Places
 pub mod PlainLaws
+pub mod PlainLogs
 pub mod Released
 pub mod Search
 pub mod TestLemmas

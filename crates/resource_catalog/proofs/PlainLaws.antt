@@ -1,27 +1,43 @@
--- The catalog decides as the plain step over all names, if each kind does so on its own instance.
-use Rattle.std.proofs.Common.{◌≡◌, ℕ, ◌+◌, Bool, true, false, cond, List, [], length, Option, Some, None, Result, Ok, Err, refl, sym, ap, ◌∙◌}
+-- Wherever the cells show a plain state whose resources are of kinds that are built, the catalog does what its next entry does, if
+-- each kind does so on its own instance.
+use Rattle.std.proofs.Common.{◌≡◌, ℕ, ◌+◌, Bool, true, false, cond, List, [], ◌∷◌, ◌++◌, length, Option, Some, None, refl, sym, ap, ◌∙◌}
 use Rattle.std.specs.Prelude.{nat_le, ◌==◌}
+use Rattle.std.specs.List.{flat_map}
 use Rattle.std.specs.Cmp.{nat_eq_equiv}
 use Rattle.host_types.specs.Cells.{Name_at, Cell_at, Held, Cells, at, named as held_name}
-use Rattle.host_types.specs.Decision.{Choice, Decides, Declines, is_looking}
+use Rattle.host_types.specs.Decision.{Decides, Declines, is_looking}
 use Rattle.host_types.specs.declared.entry.Kind.{Kind}
+use Rattle.host_types.specs.declared.entry.Kind.TheVariants as kinds
 use Rattle.host_types.specs.declared.entry.Cell.{Cell}
+use Rattle.host_types.specs.declared.entry.Effect.{Effect}
 use Rattle.host_types.specs.declared.entry.Op.{Op}
 use Rattle.host_types.specs.declared.entry.Op.TheVariants.{Create, Delete}
 use Rattle.host_types.specs.declared.entry.Effect.TheVariants.{Nothing, Create as Creates, Delete as Deletes}
-use Rattle.host_types.specs.declared.entry.Reply.{Reply}
 use Rattle.host_types.specs.declared.entry.Reply.TheVariants.{None as No_reply, Index}
-use Rattle.host_types.specs.declared.entry.Refusal.{Refusal}
 use Rattle.host_types.specs.declared.entry.Refusal.TheVariants.{Kind as Other_kind, Names}
-use Rattle.log_model.specs.Plain.{Plain, Named_resource, State, named, kind_of}
-use Rattle.log_model.specs.Rows.{Row, Does, Out_of_range, Of_no_kind, row}
-use Rattle.log_model.specs.Commands.{Outcome, Decided, Declined, outcome, outcome_at, outcome_new, outcome_there, row_outcome, name_limit, kind_number}
+use Rattle.log_model.specs.Batches.{told_outcome}
+use Rattle.log_model.specs.Plain.{Named_resource, State, named, kind_of, new_plain}
+use Rattle.log_model.specs.PlainMachine.{choice_of}
+use Rattle.log_model.specs.Rows.{Row, Does, Out_of_range, Of_no_kind, row, without_session}
+use Rattle.log_model.specs.Commands.{Outcome, Decided, Declined, outcome, outcome_at, outcome_new, outcome_there, row_outcome, shown_by, plain_look, name_limit, kind_number}
 use Rattle.log_model.specs.Shows.{Shows}
+use Rattle.log_model.specs.Telling.{name_held, EachName, ShowsState}
 use Rattle.log_model.specs.Deciding.{chosen, shown, call_of}
+use Rattle.log_model.proofs.Tellings.{shown_found}
+use Rattle.log_model.proofs.Tracks.{find_passes, same_text}
 use Rattle.resource_catalog.specs.Kinds.{is_built, decision_of}
-use Rattle.resource_catalog.specs.Catalog.{names_in, part, choice_new, choice_there, choice_at, look_kind, look_at, catalog_decision}
+use Rattle.resource_catalog.specs.Catalog.{names_in, part, instance_of, instances, choice_new, choice_there, choice_at, look_at, tells_kind, tells_named, tells_on, catalog_decision}
 use Rattle.resource_catalog.specs.CatalogLaws.{at_part}
-use Rattle.resource_catalog.specs.PlainNames.{ShowsName, ShowsNames, choice_of, shown_of, IsOfBuilt, DecidesAsModel, KindsArePlain}
+use Rattle.resource_catalog.specs.PlainNames.{EachIsBuilt, IsOfBuilt, DecidesAsModel, KindsArePlain}
+use Rattle.resource_catalog.proofs.Counted.{names_counted}
+use Rattle.resource_catalog.proofs.Kept.{closes_nothing, told_none}
+
+-- the name stands with its instance and kind, which is built, and its cells show its plain resource
+record ShowsName (cells : Cells) (name : List ℕ) (n : Named_resource) : Type 0 where
+  pub same : n.name ≡ name
+  pub stands : at cells (Name_at name) ≡ Some (held_name n.instance (kind_of n.plain))
+  pub built : is_built (kind_of n.plain) ≡ true
+  pub shows : Shows n.instance cells n.plain
 
 -- ---- outcomes
 
@@ -34,7 +50,7 @@ row_choice names n (Does effect reply next told) = refl
 row_choice names n (Out_of_range cur) = refl
 row_choice names n Of_no_kind = refl
 
-row_shown : (names : List Named_resource) (n : Named_resource) (r : Row) → shown_of (row_outcome names n r) ≡ shown (kind_of n.plain) r
+row_shown : (names : List Named_resource) (n : Named_resource) (r : Row) → shown_by (row_outcome names n r) ≡ shown (kind_of n.plain) r
 row_shown names n (Does effect reply next told) = refl
 row_shown names n (Out_of_range cur) = refl
 row_shown names n Of_no_kind = refl
@@ -60,31 +76,107 @@ there_same all cells s name n Delete session i t = ap (λ x. Decides (Deletes x 
 there_same all cells s name n op session i t =
     (all (kind_of n.plain) t.built).0.resolves n.instance (part n.instance cells) n.plain refl (part_shows all cells name n t) n.name op session i ∙ sym (row_choice s.names n (row (call_of n.name n.instance session i) n.plain op))
 
-look_same : (all : KindsArePlain) (cells : Cells) (s : State) (name : List ℕ) (n : Named_resource) (op : Op) (session i : ℕ) → ShowsName cells name n → is_looking op ≡ true → (decision_of (kind_of n.plain)).look n.instance (part n.instance cells) op ≡ shown_of (outcome_there s.names n session i op)
+look_same : (all : KindsArePlain) (cells : Cells) (s : State) (name : List ℕ) (n : Named_resource) (op : Op) (session i : ℕ) → ShowsName cells name n → is_looking op ≡ true → (decision_of (kind_of n.plain)).look n.instance (part n.instance cells) op ≡ shown_by (outcome_there s.names n session i op)
 look_same all cells s name n (Create kind) session i t looking = absurd (cc)
 look_same all cells s name n Delete session i t looking = absurd (cc)
 look_same all cells s name n op session i t looking =
     (all (kind_of n.plain) t.built).0.looks n.instance (part n.instance cells) n.plain refl (part_shows all cells name n t) n.name op session i looking ∙ sym (row_shown s.names n (row (call_of n.name n.instance session i) n.plain op))
 
-look_new : (s : State) (name : List ℕ) (i : ℕ) (op : Op) → is_looking op ≡ true → look_at [] None op ≡ shown_of (outcome_new s.names name i op)
+look_new : (s : State) (name : List ℕ) (i : ℕ) (op : Op) → is_looking op ≡ true → look_at [] None op ≡ shown_by (outcome_new s.names name i op)
 look_new s name i (Create kind) looking = absurd (cc)
 look_new s name i op looking = refl
 
+-- ---- events: no kind that is built tells any
+
+tells_nothing : (kind : Kind) (m : ℕ) (c : Cells) (name : List ℕ) (effect : Effect) (i : ℕ) → (decision_of kind).tells m c name effect i ≡ []
+tells_nothing kinds.Value m c name effect i = refl
+tells_nothing kinds.Counter m c name effect i = refl
+tells_nothing _ m c name effect i = refl
+
+catalog_tells_nothing : (cells : Cells) (effect : Effect) (i : ℕ) → catalog_decision.tells cells effect i ≡ []
+catalog_tells_nothing cells effect i = on (instance_of effect)
+  where
+    known : (m : ℕ) (name : List ℕ) (k : Option Kind) → tells_kind cells m name k effect i ≡ []
+    known m name None = refl
+    known m name (Some kind) = tells_nothing kind m (part m cells) name effect i
+
+    found : (m : ℕ) (o : Option (List ℕ × Option Kind)) → tells_named cells m o effect i ≡ []
+    found m None = refl
+    found m (Some n) = known m n.0 n.1
+
+    on : (o : Option ℕ) → tells_on cells o effect i ≡ []
+    on None = refl
+    on (Some m) = found m (Rattle.std.specs.FinMap.Entries.find Rattle.std.specs.Ordering.nat_cmp m (instances cells))
+
+row_told : (all : KindsArePlain) (cells : Cells) (s : State) (name : List ℕ) (n : Named_resource) (op : Op) (session i : ℕ) → ShowsName cells name n → told_outcome (row_outcome s.names n (row (call_of n.name n.instance session i) n.plain op)) ≡ []
+row_told all cells s name n op session i t = go (row (call_of n.name n.instance session i) n.plain op) refl
+  where
+    go : (r : Row) → row (call_of n.name n.instance session i) n.plain op ≡ r → told_outcome (row_outcome s.names n r) ≡ []
+    go (Does effect reply next told) e =
+        sym ((all (kind_of n.plain) t.built).0.tells n.instance (part n.instance cells) n.plain next refl (part_shows all cells name n t) n.name op session i effect reply told e)
+        ∙ tells_nothing (kind_of n.plain) n.instance (part n.instance cells) n.name effect i
+    go (Out_of_range cur) e = refl
+    go Of_no_kind e = refl
+
+there_told : (all : KindsArePlain) (cells : Cells) (s : State) (name : List ℕ) (n : Named_resource) (op : Op) (session i : ℕ) → ShowsName cells name n → told_outcome (outcome_there s.names n session i op) ≡ []
+there_told all cells s name n (Create kind) session i t =
+    elim (kind_number kind == kind_number (kind_of n.plain)) as (λ b. told_outcome (cond b (Decided Nothing (Index n.instance) s.names []) (Declined (Other_kind (kind_of n.plain)))) ≡ []) [ true ↦ refl | false ↦ refl ]
+there_told all cells s name n Delete session i t = refl
+there_told all cells s name n op session i t = row_told all cells s name n op session i t
+
+new_told : (s : State) (name : List ℕ) (i : ℕ) (op : Op) → told_outcome (outcome_new s.names name i op) ≡ []
+new_told s name i (Create kind) =
+    elim (nat_le name_limit (length s.names)) as (λ b. told_outcome (cond b (Declined Names) (Decided (Creates name kind) (Index i) (s.names ++ record { name = name; instance = i; plain = new_plain kind } ∷ []) [])) ≡ []) [ true ↦ refl | false ↦ refl ]
+new_told s name i op = refl
+
 -- ---- all names
 
-pub decides_as_model : KindsArePlain → DecidesAsModel
-decides_as_model all = record { resolves = resolves; looks = looks }
-  where
-    resolves : (cells : Cells) (s : State) → ShowsNames cells s → (name : List ℕ) (op : Op) (session : ℕ) → IsOfBuilt op → catalog_decision.resolve cells name op session (s.last + 1) ≡ choice_of (outcome s name session op)
-    resolves cells s shows name op session built = go (named name s) refl
-      where
-        go : (o : Option Named_resource) → named name s ≡ o → choice_at cells name (at cells (Name_at name)) op session (s.last + 1) ≡ choice_of (outcome_at s.names o name session (s.last + 1) op)
-        go None e = ap (λ (h : Option Held). choice_at cells name h op session (s.last + 1)) (shows.absent name e) ∙ new_same cells s name op (s.last + 1) shows.counts built
-        go (Some n) e = let t = shows.there name n e in ap (λ (h : Option Held). choice_at cells name h op session (s.last + 1)) t.stands ∙ there_same all cells s name n op session (s.last + 1) t
+module _ (all : KindsArePlain) (s : State) (cells : Cells) (shows : ShowsState cells s) (built : EachIsBuilt s.names) where
+  absent : (name : List ℕ) → named name s ≡ None → at cells (Name_at name) ≡ None
+  absent name e = shows.names name ∙ ap name_held e
 
-    looks : (cells : Cells) (s : State) → ShowsNames cells s → (name : List ℕ) (op : Op) (session : ℕ) → is_looking op ≡ true → catalog_decision.look cells name op ≡ shown_of (outcome s name session op)
-    looks cells s shows name op session looking = go (named name s) refl
-      where
-        go : (o : Option Named_resource) → named name s ≡ o → look_at cells (at cells (Name_at name)) op ≡ shown_of (outcome_at s.names o name session (s.last + 1) op)
-        go None e = ap (λ (h : Option Held). look_at cells h op) (shows.absent name e) ∙ look_new s name (s.last + 1) op looking
-        go (Some n) e = let t = shows.there name n e in ap (λ (h : Option Held). look_at cells h op) t.stands ∙ look_same all cells s name n op session (s.last + 1) t looking
+  there : (name : List ℕ) (n : Named_resource) → named name s ≡ Some n → ShowsName cells name n
+  there name n e = record {
+    same = sym (same_text name n.name (find_passes (λ (m : Named_resource). Rattle.host_types.specs.Cells.is_text name m.name) s.names n e));
+    stands = shows.names name ∙ ap name_held e;
+    built = shown_found cells s shows (λ m. is_built (kind_of m.plain) ≡ true) name s.names n built e;
+    shows = shown_found cells s shows (λ m. Shows m.instance cells m.plain) name s.names n shows.shown e;
+  }
+
+  resolves : (name : List ℕ) (op : Op) (session : ℕ) → IsOfBuilt op → catalog_decision.resolve cells name op session (s.last + 1) ≡ choice_of (outcome s name session op)
+  resolves name op session of_built = go (named name s) refl
+    where
+      go : (o : Option Named_resource) → named name s ≡ o → choice_at cells name (at cells (Name_at name)) op session (s.last + 1) ≡ choice_of (outcome_at s.names o name session (s.last + 1) op)
+      go None e = ap (λ (h : Option Held). choice_at cells name h op session (s.last + 1)) (absent name e) ∙ new_same cells s name op (s.last + 1) (names_counted cells s shows) of_built
+      go (Some n) e = let t = there name n e in ap (λ (h : Option Held). choice_at cells name h op session (s.last + 1)) t.stands ∙ there_same all cells s name n op session (s.last + 1) t
+
+  looks : (name : List ℕ) (op : Op) → is_looking op ≡ true → catalog_decision.look cells name op ≡ plain_look s name op
+  looks name op looking = go (named name s) refl
+    where
+      go : (o : Option Named_resource) → named name s ≡ o → look_at cells (at cells (Name_at name)) op ≡ shown_by (outcome_at s.names o name 0 (s.last + 1) op)
+      go None e = ap (λ (h : Option Held). look_at cells h op) (absent name e) ∙ look_new s name (s.last + 1) op looking
+      go (Some n) e = let t = there name n e in ap (λ (h : Option Held). look_at cells h op) t.stands ∙ look_same all cells s name n op 0 (s.last + 1) t looking
+
+  told_nothing : (name : List ℕ) (op : Op) (session : ℕ) → told_outcome (outcome s name session op) ≡ []
+  told_nothing name op session = go (named name s) refl
+    where
+      go : (o : Option Named_resource) → named name s ≡ o → told_outcome (outcome_at s.names o name session (s.last + 1) op) ≡ []
+      go None e = new_told s name (s.last + 1) op
+      go (Some n) e = there_told all cells s name n op session (s.last + 1) (there name n e)
+
+  closes : (session : ℕ) (ns : List Named_resource) → EachName (λ n. is_built (kind_of n.plain) ≡ true) ns → EachName (λ n. Shows n.instance cells n.plain) ns → flat_map (λ n. (without_session n.name session n.plain).1) ns ≡ []
+  closes session [] b h = refl
+  closes session (n ∷ ns) b h = (λ j. one j ++ closes session ns b.1 h.1 j)
+    where
+      one : (without_session n.name session n.plain).1 ≡ []
+      one =
+          sym ((all (kind_of n.plain) b.0).0.tells_close n.instance cells n.plain refl h.0 n.name session)
+          ∙ closes_nothing (kind_of n.plain) n.instance cells n.name session
+
+pub decides_as_model : KindsArePlain → DecidesAsModel
+decides_as_model all = record {
+  resolves = λ s cells name op session shows built of_built. resolves all s cells shows built name op session of_built;
+  tells = λ s cells name op session effect reply names told shows built e. catalog_tells_nothing cells effect (s.last + 1) ∙ sym (told_nothing all s cells shows built name op session) ∙ ap told_outcome e;
+  looks = λ s cells name op looking shows built. looks all s cells shows built name op looking;
+  tells_close = λ s cells session shows built. told_none cells session (instances cells) ∙ sym (closes all s cells shows built session s.names built shows.shown);
+}

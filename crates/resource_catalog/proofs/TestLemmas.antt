@@ -1,12 +1,12 @@
 -- Cells of earlier entries, for the tests.
-use Rattle.std.proofs.Common.{◌≡◌, ℕ, ◌+◌, ◌<◌, ◌≤◌, ◌==◌, ◌&&◌, ◌||◌, Bool, true, false, cond, not, nat_lt, T, List, [], ◌∷◌, Option, Some, None, refl, sym, ap, subst, ◌∙◌, eqb-true, arith}
+use Rattle.std.proofs.Common.{◌≡◌, ℕ, ◌+◌, ◌<◌, ◌≤◌, ◌==◌, ◌&&◌, ◌||◌, Bool, true, false, cond, not, nat_lt, T, [], ◌∷◌, refl, sym, ap, subst, ◌∙◌, eqb-true, arith}
 use Rattle.std.specs.List.{list_all, list_any}
 use Rattle.std.proofs.lemmas.Bool.Decides.{nat_tests}
 use Rattle.host_types.specs.declared.entry.Cell.{Cell}
 use Rattle.host_types.specs.declared.entry.Content.{Content}
 use Rattle.host_types.specs.declared.entry.Effect.{Effect}
 use Rattle.host_types.specs.declared.entry.Effect.TheVariants.{Create, Delete, Put, Drop, Wipe, WipeKey, Tell, Nothing}
-use Rattle.host_types.specs.Cells.{Place, Name_at, Cell_at, Register_at, Alive_at, Held, Cells, place_cmp, at, named, filled, is_met, is_in_instance, is_name_for, put_all, effect_puts, effect_covers, effect_fits, changed, after_effect, without}
+use Rattle.host_types.specs.Cells.{Place, Name_at, Cell_at, Register_at, Alive_at, Held, Cells, place_cmp, at, named, filled, is_met, is_in_instance, is_name_for, put_all, effect_puts, effect_covers, effect_fits, after_effect, without}
 use Rattle.host_types.proofs.Places.{exact_places}
 use Rattle.machine.specs.Release.{CreatesAnew}
 use Rattle.resource_catalog.specs.TestSteps.{is_earlier, AreEarlier}

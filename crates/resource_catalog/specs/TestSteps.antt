@@ -1,5 +1,5 @@
 -- What the tests say of the cells of a machine whose next entry has a certain index.
-use Rattle.std.specs.Prelude.{◌≡◌, ℕ, Bool, true, ◌&&◌, nat_lt, IsTrue}
+use Rattle.std.specs.Prelude.{ℕ, Bool, ◌&&◌, nat_lt, IsTrue}
 use Rattle.std.specs.List.{list_all}
 use Rattle.host_types.specs.Cells.{Place, Cell_at, Held, Cells}
 

@@ -1,7 +1,4 @@
-use Rattle.std.proofs.Common.{◌≡◌, true}
-use Rattle.host_types.specs.declared.entry.Kind.{Kind}
 use Rattle.host_types.specs.declared.entry.Kind.TheVariants.{Value, Counter}
-use Rattle.resource_catalog.specs.Kinds.{is_built}
 use Rattle.resource_catalog.specs.PlainNames.{KindIsPlain, KindsArePlain}
 use Rattle.resource_catalog.proofs.kinds.kinds_are_plain.Goals as goal
 
