@@ -314,7 +314,8 @@ fn a_frame_has_1_to_64_ticks(rt: HostRuntime) -> Result<(), Fail> {
     let damaged = "damaged db-1-1.log at 0\n";
     let mut unbuilt = ticks(alloc, 1)?;
     unbuilt.extend_from_slice(&[0, 0, 0, 0, 0, 0, 0, 2, 0, 0, 0, 0, 0, 0, 0, 2])?;
-    unbuilt.extend_from_slice(&[1, 0, 0, 0, 0, 0, 0, 0, 9])?;
+    unbuilt.extend_from_slice(&[5, 0, 0, 0, 0, 0, 0, 0, 1, 0, 0, 0, 0, 0, 0, 0, 1])?;
+    unbuilt.extend_from_slice(&[5, 0, 0, 0, 0, 0, 0, 0, 1, 0])?;
     let mut cut = ticks(alloc, 2)?;
     cut.truncate(33);
     let table = [

@@ -3,7 +3,7 @@ use Rattle.std.proofs.Common.{◌≡◌, ℕ, false, List, [], ◌∷◌, ◌++�
 use Rattle.disk_model.specs.declared.file_id.FileId.{FileId}
 use Rattle.host_types.specs.declared.entry.Entry.{Entry}
 use Rattle.host_types.specs.declared.entry.Body.TheVariants.{Tick}
-use Rattle.entry_codec.specs.Reading.{spelling, entry_at, bounded_at, byte_at, body_at, body_behind}
+use Rattle.entry_codec.specs.Reading.{spelling, entry_at, bounded_at, byte_at, body_at, body_behind, command_at, effect_at, effect_behind, reply_at, reply_behind}
 use Rattle.entry_codec.specs.Reading as reading
 use Rattle.segment_files.specs.Numbers.{number_at}
 use Rattle.segment_files.specs.Parse.{Closed, Whole, Damaged, parse, parse_open, body, frame, appended_walk, descriptor_fields}
@@ -76,9 +76,9 @@ two_entries : parse id (head ++ (1 ∷ 0 ∷ 0 ∷ 0 ∷ 34 ∷ []) ++ tick 1 1 
 unfolding parse_open number_at spelling entry_at bounded_at reading.number_at byte_at body_at body_behind body frame appended_walk descriptor_fields
 two_entries = refl
 
--- an entry that isn't built yet: a register
-unbuilt : parse id (head ++ (1 ∷ 0 ∷ 0 ∷ 0 ∷ 25 ∷ []) ++ eight 1 ++ eight 1 ++ (1 ∷ eight 9) ++ (0 ∷ [])) ≡ Damaged 69
-unfolding parse_open number_at spelling entry_at bounded_at reading.number_at byte_at body_at body_behind body frame appended_walk descriptor_fields
+-- an entry that isn't built yet: a command that wipes an instance
+unbuilt : parse id (head ++ (1 ∷ 0 ∷ 0 ∷ 0 ∷ 43 ∷ []) ++ eight 1 ++ eight 1 ++ (5 ∷ eight 1) ++ eight 1 ++ (5 ∷ eight 1) ++ (0 ∷ []) ++ (0 ∷ [])) ≡ Damaged 69
+unfolding parse_open number_at spelling entry_at bounded_at reading.number_at byte_at body_at body_behind command_at effect_at effect_behind reply_at reply_behind body frame appended_walk descriptor_fields
 unbuilt = refl
 
 closed : parse id (0 ∷ drop 1 file) ≡ Closed

@@ -9,6 +9,7 @@ pub mod Walks
 pub mod Writing
 pub mod Bodies
 pub mod Looking
+pub mod Numbering
 pub mod Scanning
 pub mod Wholes
 pub mod FrameLemmas

@@ -21,7 +21,7 @@ use Rattle.segment_files.specs.declared.reading.Part.{Part as Scanned}
 use Rattle.segment_files.specs.declared.reading.Found.{Found as Answer}
 use Rattle.segment_files.specs.declared.reading.Found.TheVariants.{Closed as Is_closed, Part as Is_part}
 use Rattle.segment_files.specs.Files.{is_open}
-use Rattle.entry_codec.specs.Spelled.{spelled}
+use Rattle.entry_codec.specs.Spelled.{IsInRange, EntryFits, spelled}
 use Rattle.entry_codec.specs.Reading.{Spells, spelling}
 use Rattle.segment_files.specs.Numbers.{Four, number_at}
 use Rattle.host_types.specs.Limits.{last_limit}
@@ -90,6 +90,11 @@ abbrev pub IsDamage : Found → Type 0
 IsDamage Closed = ⊥
 IsDamage (Whole part) = ⊥
 IsDamage (Damaged place) = Unit {0}
+
+-- entries behind an index: each is at the next one, and its numbers and texts are as an entry may have them
+abbrev pub AreNumbered : ℕ → Numbered → Type 0
+AreNumbered before [] = Unit {0}
+AreNumbered before (e ∷ entries) = (e.0 ≡ before + 1) × IsInRange e.0 e.1 × EntryFits e.1 × AreNumbered (before + 1) entries
 
 -- `Failed` is told only where the disk has failed since
 pub record HasFileCause {T : Type 0} (before now : ℕ) (result : Result T FileFault) : Type 0 where
@@ -234,6 +239,11 @@ IsRead id found (Err fault) = IsTrueFault found fault
 abbrev pub HasFew : Contents → Type 0
 HasFew Is_shut = Unit {0}
 HasFew (Open descriptor entries gate) = (length entries.items ≤ last_limit) × (gate ≤ 64 + frame_limit * length entries.items)
+
+-- the entries of a file of this base, whatever the disk tells
+abbrev pub HasNumbered : ℕ → Contents → Type 0
+HasNumbered base Is_shut = Unit {0}
+HasNumbered base (Open descriptor entries gate) = AreNumbered (base - 1) entries.items
 
 -- how far a part reaches, whatever the disk tells
 abbrev pub IsBounded : FileId → Answer → Type 0

@@ -7,7 +7,7 @@ ghost use Rattle.segment_files.specs.Files.{is_open};
 ghost use Rattle.host_types.specs.Limits.{last_limit};
 ghost use Rattle.segment_files.specs.Parse.{parse};
 ghost use Rattle.segment_files.specs.declared.reading.FileFault.TheVariants.{NoMemory};
-ghost use Rattle.segment_files.specs.Contents.{HasEntries, HasFew, IsBounded, IsLong, IsMeasured, HasFileCause, HasFrames, IsDamage, IsFound, IsHead, IsRead, IsNoDamage, IsWithin, ReadsPiece, file_fault};
+ghost use Rattle.segment_files.specs.Contents.{AreNumbered, HasEntries, HasNumbered, HasFew, IsBounded, IsLong, IsMeasured, HasFileCause, HasFrames, IsDamage, IsFound, IsHead, IsRead, IsNoDamage, IsWithin, ReadsPiece, file_fault};
 
 use crate::descriptor::Descriptor;
 use crate::windows::{Walked, read_window};
@@ -141,6 +141,7 @@ fn read_piece<D: Disk>(
     ensures few { IfOk result (λ walked. length entries.new.items ≤ last_limit) }
     ensures within { IfOk result (IsWithin (end - at)) }
     ensures measured { IfOk result (IsMeasured (length entries.old.items) (length entries.new.items)) }
+    ensures numbered { AreNumbered (id.base - 1) entries.old.items → IfOk result (λ _. AreNumbered (id.base - 1) entries.new.items) }
     ensures no_damage { IfErr result IsNoDamage }
     ensures reads { IsTrue D.tells → (bytes : List ℕ) → Reads (D.view disk.old) (place name.now id) bytes
         → IfOk result (ReadsPiece (drop at bytes) (length buffer.old) (id.base - 1 + length entries.old.items) entries.old.items entries.new.items) }
@@ -185,6 +186,7 @@ fn read_frames<D: Disk>(
     requires none { entries.old.items ≡ [] }
     ensures few { IfOk result (λ frames. length entries.new.items ≤ last_limit) }
     ensures measured { IfOk result (IsLong (length entries.new.items)) }
+    ensures numbered { IfOk result (λ _. AreNumbered (id.base - 1) entries.new.items) }
     ensures frames { IsTrue D.tells → (bytes : List ℕ) → Reads (D.view disk.old) (place name.now id) bytes
         → IfOk result (HasFrames bytes (id.base - 1) entries.new.items) }
     ensures no_damage { IfErr result IsNoDamage }
@@ -225,6 +227,7 @@ fn read_part<D: Disk>(
     requires id { IsFileId id }
     requires listed { IsTrue D.tells → IsListed (D.view disk.old) (place name.now id) }
     ensures few { IfOk result HasFew }
+    ensures numbered { IfOk result (HasNumbered id.base) }
     ensures found { IsTrue D.tells → (bytes : List ℕ) → Reads (D.view disk.old) (place name.now id) bytes
         → IsHead id bytes (Ok (Some descriptor)) → IsRead id (parse id bytes) result }
     ensures told { IsTrue D.tells → Looks (D.view disk.old) (D.view disk.new) }
@@ -253,6 +256,7 @@ fn read_file<D: Disk>(
     requires id { IsFileId id }
     requires listed { IsTrue D.tells → IsListed (D.view disk.old) (place name.now id) }
     ensures few { IfOk result HasFew }
+    ensures numbered { IfOk result (HasNumbered id.base) }
     ensures found { IsTrue D.tells → (bytes : List ℕ) → Reads (D.view disk.old) (place name.now id) bytes → IsRead id (parse id bytes) result }
     ensures told { IsTrue D.tells → Looks (D.view disk.old) (D.view disk.new) }
     ensures cause { HasFileCause (D.faults disk.old) (D.faults disk.new) result }
@@ -311,6 +315,8 @@ pub fn entries<D: Disk>(
     requires open { IsTrue D.tells → (bytes : List ℕ) → Reads (D.view disk.old) (place name.now id) bytes → IsTrue (is_open bytes) }
     ensures entries { IsTrue D.tells → (bytes : List ℕ) → Reads (D.view disk.old) (place name.now id) bytes
         → IfOk result (λ entries. HasEntries (parse id bytes) entries.items) }
+    // Each is as an entry may be, whatever the disk tells.
+    ensures numbered { IfOk result (λ entries. AreNumbered (id.base - 1) entries.items) }
     ensures damaged { IsTrue D.tells → (bytes : List ℕ) → Reads (D.view disk.old) (place name.now id) bytes
         → (at : ℕ) → IsErrOf result (FileFault.Damaged at) → (at ≡ 0) × IsDamage (parse id bytes) }
     ensures stays { IsTrue D.tells → Stays (D.view disk.old) (D.view disk.new) }

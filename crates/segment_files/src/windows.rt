@@ -1,14 +1,14 @@
 // Reads frames: an open gate, a length, and so many bytes of entries.
-ghost use Rattle.std.specs.Prelude.{◌≡◌, ◌++◌, ◌+◌, ◌-◌, ◌<◌, ◌≤◌, ◌^◌, length, IfOk};
+ghost use Rattle.std.specs.Prelude.{ℕ, ◌≡◌, ◌++◌, ◌+◌, ◌-◌, ◌<◌, ◌≤◌, ◌^◌, length, IfOk};
 ghost use Rattle.host_types.specs.Limits.{last_limit};
 ghost use Rattle.disk_model.specs.Image.{id_limit};
-ghost use Rattle.segment_files.specs.Parse.{is_next};
-ghost use Rattle.segment_files.specs.Contents.{IsMeasured, ReadsBody, ReadsFrame, ReadsNext, ReadsWindow};
+ghost use Rattle.segment_files.specs.Parse.{is_built, is_built_effect, is_next};
+ghost use Rattle.segment_files.specs.Contents.{AreNumbered, IsMeasured, ReadsBody, ReadsFrame, ReadsNext, ReadsWindow};
 
 use crate::frames::{BODY_LIMIT, FRAME_ROOM};
 use crate::numbers::u32_at;
 use entry_codec::{ReadFault, read};
-use host_types::{Body, Entry, Index, NoMemory};
+use host_types::{Body, Cell, Content, Effect, Entry, Index, Kind, NoMemory};
 use std::alloc::Global;
 
 /// The least length of a body, that of one tick.
@@ -39,12 +39,37 @@ pub(crate) enum FrameRead {
     Damaged,
 }
 
+/// Whether a log may have this effect today: those on names, and what a value or a counter stores.
+fn is_built_effect(effect: &Effect) -> bool
+    ensures { result ≡ is_built_effect effect.now }
+{
+    match effect {
+        Effect::Nothing | Effect::Delete { .. } => true,
+        Effect::Create { kind, .. } => matches!(kind, Kind::Value | Kind::Counter),
+        Effect::Put { cell, content, .. } => {
+            matches!(cell, Cell::One) && !matches!(content, Content::Mark)
+        }
+        Effect::Drop { cell, .. } => matches!(cell, Cell::One),
+        _ => false,
+    }
+}
+
+/// Whether a log may have an entry with this body today.
+fn is_built(body: &Body) -> bool
+    ensures { result ≡ is_built body.now }
+{
+    match body {
+        Body::Command { effect, .. } => is_built_effect(effect),
+        _ => true,
+    }
+}
+
 /// Whether a log may have this entry behind that index. What isn't built yet is damage.
 fn may_follow(before: Index, index: Index, entry: &Entry) -> bool
     requires { before + 1 < 2 ^ 64 }
     ensures { result ≡ is_next before index entry.now }
 {
-    index == before + 1 && index <= LAST && matches!(entry.body, Body::Tick)
+    index == before + 1 && index <= LAST && is_built(&entry.body)
 }
 
 /// Reads the entry that these bytes begin with, and puts it behind the others, where the log may have it behind that index.
@@ -56,7 +81,8 @@ fn read_next(
     entries: &mut Vec<(Index, Entry)>,
 ) -> Result<Option<usize>, NoMemory>
     requires { before + 1 < 2 ^ 64 }
-    ensures { IfOk result (ReadsNext bytes.now before entries.old.items entries.new.items) }
+    ensures reads { IfOk result (ReadsNext bytes.now before entries.old.items entries.new.items) }
+    ensures numbered { (first : ℕ) → before ≡ first + length entries.old.items → AreNumbered first entries.old.items → IfOk result (λ _. AreNumbered first entries.new.items) }
 {
     let (index, entry, size) = match read(alloc, bytes) {
         Ok(found) => found,
@@ -86,6 +112,7 @@ fn read_body(
     requires few { length entries.old.items ≤ last_limit }
     ensures few { IfOk result (λ whole. length entries.new.items ≤ last_limit) }
     ensures reads { IfOk result (ReadsBody body.now before entries.old.items entries.new.items) }
+    ensures numbered { (first : ℕ) → before ≡ first + length entries.old.items → AreNumbered first entries.old.items → IfOk result (λ _. AreNumbered first entries.new.items) }
 {
     let mut at = 0;
     let mut count = 0;
@@ -114,6 +141,7 @@ fn read_frame(
     requires few { length entries.old.items ≤ last_limit }
     ensures few { IfOk result (λ read. length entries.new.items ≤ last_limit) }
     ensures reads { IfOk result (ReadsFrame behind.now before entries.old.items entries.new.items) }
+    ensures numbered { (first : ℕ) → before ≡ first + length entries.old.items → AreNumbered first entries.old.items → IfOk result (λ _. AreNumbered first entries.new.items) }
 {
     if behind.len() < 4 {
         return Ok(FrameRead::Cut);
@@ -145,6 +173,7 @@ pub(crate) fn read_window(
     ensures few { IfOk result (λ walked. length entries.new.items ≤ last_limit) }
     ensures measured { IfOk result (IsMeasured (length entries.old.items) (length entries.new.items)) }
     ensures reads { IfOk result (λ walked. ReadsWindow window.now (base - 1 + length entries.old.items) entries.old.items entries.new.items walked) }
+    ensures numbered { AreNumbered (base - 1) entries.old.items → IfOk result (λ _. AreNumbered (base - 1) entries.new.items) }
 {
     let mut at = 0;
     while at < window.len() {

@@ -1,8 +1,8 @@
-use Rattle.std.proofs.Common.{◌≡◌, ◌-◌, ◌+◌, ℕ, length, drop, ap, subst, ◌∙◌, ◌++◌, arith, length-take, length-append}
+use Rattle.std.proofs.Common.{◌≡◌, ◌-◌, ◌+◌, ℕ, length, drop, sym, ap, subst, ◌∙◌, ◌++◌, arith, length-take, length-append}
 use Rattle.disk_model.specs.Image.{place}
 use Rattle.segment_files.specs.declared.windows.Walked.{Walked}
 use Rattle.segment_files.specs.declared.windows.Walked.TheVariants.{Rest}
-use Rattle.segment_files.specs.Contents.{IsMeasured, ReadsPiece}
+use Rattle.segment_files.specs.Contents.{AreNumbered, IsMeasured, ReadsPiece}
 use Rattle.segment_files.proofs.Looking.{looks_not, looks_then, reads_still}
 use Rattle.segment_files.proofs.Scanning.{ScannedTo, scanned_none, scanned_end, scanned_bad, scanned_stuck, scanned_gate, scanned_more}
 use Rattle.segment_files.proofs.reading.read_frames.Goals as goal
@@ -12,6 +12,7 @@ loop-at-init g c = record {
   looks = λ t. looks_not (g.D.Disk.view c.args.disk.now);
   faults = omega arith;
   some = c.requires.buffer;
+  numbered = subst (AreNumbered (c.args.id.base - 1)) (sym c.requires.none) tt;
   few = omega (arith, ap length c.requires.none);
   measured = omega (arith, ap length c.requires.none);
   scanned = λ t bytes reads. scanned_none bytes (c.args.id.base - 1) c.args.entries.now.items c.requires.none;
@@ -71,6 +72,7 @@ loop-at-preserved-then-behind-gt0 g c =
         length-take c.loop-at.buffer.len (c.read_piece.new.buffer ++ drop (length c.read_piece.new.buffer) c.loop-at.buffer.items),
         length-append c.read_piece.new.buffer (drop (length c.read_piece.new.buffer) c.loop-at.buffer.items),
       );
+      numbered = c.in_ok-behind.ensures.numbered c.loop-at.invariant.numbered;
       few = c.in_ok-behind.ensures.few;
       measured = omega (arith, c.loop-at.invariant.measured, subst (IsMeasured (length old) (length new)) c.in-Rest.is c.in_ok-behind.ensures.measured);
       scanned = λ t bytes reads.
@@ -91,6 +93,7 @@ loop-at-preserved g c =
       looks = λ t. looks_then (view c.args.disk.now) (view c.loop-at.disk) (view c.read_piece.new.disk) (g.met.D.Disk.sound c.args.disk.now t) (c.loop-at.invariant.looks t) (c.read_piece.ensures.told t);
       faults = omega (arith, c.loop-at.invariant.faults, c.read_piece.ensures.cause.later);
       some = omega (arith, c.in_ok-lengthen-in-Rest.ensures.longer);
+      numbered = c.in_ok-behind.ensures.numbered c.loop-at.invariant.numbered;
       few = c.in_ok-behind.ensures.few;
       measured = omega (arith, c.loop-at.invariant.measured, subst (IsMeasured (length old) (length new)) c.in-Rest.is c.in_ok-behind.ensures.measured);
       scanned = λ t bytes reads.
@@ -104,3 +107,15 @@ pub returns-clause-frames : goal.returns-clause-frames
 returns-clause-frames g c = λ t bytes reads.
     scanned_end bytes (c.args.id.base - 1) c.loop-at.entries.items c.loop-at.entries.items c.loop-at.at (c.loop-at.invariant.scanned t bytes reads)
     (omega (arith, c.loop-at-test.false, c.requires.end t bytes reads))
+
+pub returns-in-Gate-clause-numbered : goal.returns-in-Gate-clause-numbered
+returns-in-Gate-clause-numbered g c = c.in_ok-behind.ensures.numbered c.loop-at.invariant.numbered
+
+pub returns-in-Damaged-clause-numbered : goal.returns-in-Damaged-clause-numbered
+returns-in-Damaged-clause-numbered g c = c.in_ok-behind.ensures.numbered c.loop-at.invariant.numbered
+
+pub returns-else-end-at-clause-numbered : goal.returns-else-end-at-clause-numbered
+returns-else-end-at-clause-numbered g c = c.in_ok-behind.ensures.numbered c.loop-at.invariant.numbered
+
+pub returns-clause-numbered : goal.returns-clause-numbered
+returns-clause-numbered g c = c.loop-at.invariant.numbered

@@ -6,6 +6,7 @@ use Rattle.segment_files.proofs.windows.read_window.Goals as goal
 
 pub loop-at-init : goal.loop-at-init
 loop-at-init c = record {
+  numbered = λ are. are;
   few = c.requires.few;
   measured = omega arith;
   passed = passed_none c.args.window.now (c.args.base - 1 + length c.args.entries.now.items) c.args.entries.now.items;
@@ -22,6 +23,10 @@ returns-clause-reads c =
 -- the index before is as many entries behind the base
 counted : (base count : ℕ) (old new : List (ℕ × Entry)) → 1 ≤ base → count ≡ length new → base - 1 + count + length old ≡ base - 1 + length old + length new
 counted base count old new some is = omega (arith, is)
+
+-- the index before is that of the last entry
+at_end : (base count : ℕ) (new : List (ℕ × Entry)) → count ≡ length new → base - 1 + count ≡ base - 1 + length new
+at_end base count new is = omega (arith, is)
 
 pub returns-in-Cut-clause-reads : goal.returns-in-Cut-clause-reads
 returns-in-Cut-clause-reads c =
@@ -51,7 +56,20 @@ loop-at-preserved c =
     let frame = frame_at c.args.window.now c.loop-at.at k old new c.in_ok-size.field-0 (Whole size) c.loop-at-test.true c.in-Whole.is c.in_ok-size.ensures.reads in
     let before = c.args.base - 1 + length c.args.entries.now.items in
     record {
+      numbered = λ are. c.in_ok-size.ensures.numbered (c.args.base - 1) (at_end c.args.base c.len.result c.loop-at.entries.items (c.len.ensures ∙ c.loop-at.entries.ok.0)) (c.loop-at.invariant.numbered are);
       few = c.in_ok-size.ensures.few;
       measured = passed_measured c.args.window.now before c.args.entries.now.items old c.loop-at.at c.loop-at.invariant.passed c.loop-at-test.true c.if-window-at-ne1.false k k_is new size frame c.loop-at.invariant.measured;
       passed = passed_frame c.args.window.now before c.args.entries.now.items old c.loop-at.at c.loop-at.invariant.passed c.loop-at-test.true c.if-window-at-ne1.false k k_is new size frame;
     }
+
+pub returns-then-window-at-ne1-clause-numbered : goal.returns-then-window-at-ne1-clause-numbered
+returns-then-window-at-ne1-clause-numbered c = c.loop-at.invariant.numbered
+
+pub returns-in-Cut-clause-numbered : goal.returns-in-Cut-clause-numbered
+returns-in-Cut-clause-numbered c = λ are. c.in_ok-size.ensures.numbered (c.args.base - 1) (at_end c.args.base c.len.result c.loop-at.entries.items (c.len.ensures ∙ c.loop-at.entries.ok.0)) (c.loop-at.invariant.numbered are)
+
+pub returns-in-Damaged-clause-numbered : goal.returns-in-Damaged-clause-numbered
+returns-in-Damaged-clause-numbered c = λ are. c.in_ok-size.ensures.numbered (c.args.base - 1) (at_end c.args.base c.len.result c.loop-at.entries.items (c.len.ensures ∙ c.loop-at.entries.ok.0)) (c.loop-at.invariant.numbered are)
+
+pub returns-clause-numbered : goal.returns-clause-numbered
+returns-clause-numbered c = c.loop-at.invariant.numbered
