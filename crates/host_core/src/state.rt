@@ -2,8 +2,9 @@
 ghost use Rattle.std.specs.Prelude.{◌≡◌, ℕ, ◌≤◌, ◌<◌, ◌+◌, [], IfOk, IfSome, OnOk, OnErr};
 ghost use Rattle.host_types.specs.Ranges.{EntryFits, IsInRange, IsIndex};
 ghost use Rattle.log_model.specs.Admission.{Offered, due_in};
-ghost use Rattle.log_model.specs.Hosted.{hosted_admits, hosted_entry, hosted_nothing, hosted_quiet, hosted_told};
+ghost use Rattle.log_model.specs.Hosted.{hosted_admits, hosted_entry, hosted_nothing, hosted_quiet, hosted_told, machine_cells};
 ghost use Rattle.log_model.specs.Replay.{replay_entry};
+ghost use Rattle.log_model.specs.Sound.{IsSound};
 ghost use Rattle.host_core.specs.Answers.{Decides_as, IsStorable};
 ghost use Rattle.host_core.specs.Seen.{IsPrepared, TellsNothing, hosted};
 
@@ -61,6 +62,14 @@ impl<M: Machine> Core<M> {
             last: 0,
             time: 0,
         }
+    }
+
+    /// What holds of it, of whatever entries it was made. This call does nothing; it tells a prover so.
+    pub fn keeps(&self)
+        ensures sound { IsSound (hosted M.cells self.now) }
+        ensures machine { machine_cells (hosted M.cells self.now).cells ≡ M.cells self.now.machine }
+    {
+        let _ = &self.last;
     }
 
     /// The index of the last entry, or 0.
