@@ -1,0 +1,179 @@
+-- A host that stands at a log, and an item more.
+use Rattle.std.proofs.Common.{◌≡◌, inl, inr, ⊎_elim, ℕ, ◌+◌, ◌≤◌, ◌<◌, nat_le, nat_lt, Bool, cond, Some, arith, true, false, IsTrue, Ok, List, [], ◌∷◌, ◌++◌, refl, sym, ap, subst, ◌∙◌}
+use Rattle.std.proofs.lemmas.Bool.{and_from}
+use Rattle.std.proofs.lemmas.Bool.Decides.{nat_tests}
+use Rattle.host_types.specs.Cells.{Cells}
+use Rattle.host_types.specs.Decision.{Choice, Decides, Declines, MachineDecision, MachineIsLawful}
+use Rattle.host_types.specs.Ranges.{EntryFits, IsInRange}
+use Rattle.host_types.specs.declared.entry.Ask.{Ask}
+use Rattle.host_types.specs.declared.entry.Ask.TheVariants as asks
+use Rattle.host_types.specs.declared.entry.Body.{Body}
+use Rattle.host_types.specs.declared.entry.Effect.{Effect}
+use Rattle.host_types.specs.declared.entry.Reply.{Reply}
+use Rattle.host_types.specs.declared.entry.Body.TheVariants as bodies
+use Rattle.host_types.specs.declared.entry.Entry.{Entry}
+use Rattle.host_types.specs.declared.entry.Refusal.{Refusal}
+use Rattle.host_types.specs.declared.entry.Refusal.TheVariants.{Time, LogEnd}
+use Rattle.host_types.specs.Limits.{last_limit}
+use Rattle.std.specs.Cmp.{nat_eq_equiv}
+use Rattle.disk_model.specs.Image.{Image}
+use Rattle.disk_model.specs.View.{View, IsSound as IsDiskSound, LeavesOnly, MayLeave}
+use Rattle.disk_model.proofs.Moments.{started, weaker}
+use Rattle.host_types.specs.declared.entry.Offer.{Offer}
+use Rattle.segment_files.specs.Parse.{is_built, is_built_effect}
+use Rattle.segment_files.specs.Folder.{folder, Stands}
+use Rattle.segment_set.specs.declared.parts.Parts.{Parts}
+use Rattle.segment_set.specs.Fits.{Fits, IsHeld, StandsOrGains as FilesStandOrGain}
+use Rattle.log_model.specs.Admission.{Item, Expired, Expiry, Expires, Nobody, Not_now, Offered, due_in, expires_due, Admission, Admitted, Repeats, Refused, first_refusal}
+use Rattle.log_model.specs.Fitting.{ItemFits, ItemsFit}
+use Rattle.log_model.specs.Hosted.{Hosted, choice_body, hosted_choice, hosted_command, machine_cells, hosted_admits, hosted_expires, hosted_entry, hosted_folded, hosted_stored, hosted_told, is_hosted_admitted, is_hosted_log}
+use Rattle.log_model.specs.Replay.{replay_entry}
+use Rattle.log_model.specs.Sound.{IsSound}
+use Rattle.log_model.specs.Stored.{body_of, is_admission, is_expiry_of}
+use Rattle.log_model.proofs.HostedLogs.{grown}
+use Rattle.log_model.proofs.OfMachines.{admitted_in_range, logs_sound, step_is_replay}
+use Rattle.host_core.specs.Seen.{hosted}
+use Rattle.host_recovery.specs.Seen.{Seen}
+use Rattle.host_recovery.specs.Standing.{StandsAt, StoresBuilt, StandsFor, StandsOrExpires, StandsOrGains, log_in}
+use Rattle.host_recovery.specs.Answers.{OnAnswer, admits_file, admits_stored, answer_of}
+use Rattle.host_recovery.specs.declared.answers.Answer.{Answer}
+use Rattle.host_recovery.proofs.Files.{stands_now}
+
+fit_more : (items : List Item) (item : Item) → ItemsFit items → ItemFits item → ItemsFit (items ++ item ∷ [])
+fit_more [] item fit here = (here, tt)
+fit_more (x ∷ items) item fit here = (fit.0, fit_more items item fit.1 here)
+
+module _ {D M : Type 0} (d : MachineDecision) (view : D → View) (cells : M → Cells) (old : Seen D M) (items : List Item) (item : Item) (entry : Entry) where
+  -- what is stored of the item makes the log's stored form longer
+  stored_more : StandsAt d view cells old items → entry ≡ hosted_entry d (hosted cells old.core) item → log_in (view old.disk) old.parts ++ entry ∷ [] ≡ hosted_stored d (items ++ item ∷ [])
+  stored_more at is =
+      (λ i. at.stored i ++ (is ∙ ap (λ (s : Hosted). hosted_entry d s item) at.state) i ∷ []) ∙ sym (grown d items item).stored
+
+  -- with the item it stands at the log with the item
+  pub stands_more : (new : Seen D M) → MachineIsLawful d → StandsAt d view cells old items → ItemFits item → IsTrue (is_hosted_admitted d (hosted cells old.core) item)
+      → entry ≡ hosted_entry d (hosted cells old.core) item → new.stopped ≡ false
+      → hosted cells new.core ≡ replay_entry (hosted_told d) 0 (hosted cells old.core) ((hosted cells old.core).last + 1, entry)
+      → log_in (view new.disk) new.parts ≡ log_in (view old.disk) old.parts ++ entry ∷ [] → IsHeld (view new.disk) new.parts.name new.parts.tail
+      → StandsAt d view cells new (items ++ item ∷ [])
+  stands_more new lawful at fit admitted is runs state log held =
+      let g = grown d items item in
+      let f : Hosted = hosted_folded d items in
+      let ok : IsTrue (is_hosted_admitted d f item) = subst (λ (s : Hosted). IsTrue (is_hosted_admitted d s item)) at.state admitted in
+      let sound = logs_sound d items lawful at.log.fits at.log.admitted in
+      record {
+        runs = runs;
+        log = record {
+          admitted = subst IsTrue (sym g.log) (and_from (is_hosted_log d items) (is_hosted_admitted d f item) at.log.admitted ok);
+          fits = fit_more items item at.log.fits fit;
+        };
+        stored = log ∙ stored_more at is;
+        held = held;
+        state = state
+            ∙ (λ i. replay_entry (hosted_told d) 0 (at.state i) ((at.state i).last + 1, (is ∙ ap (λ (s : Hosted). hosted_entry d s item) at.state) i))
+            ∙ sym (step_is_replay d f item sound.sound sound.acks_are_past ok)
+            ∙ sym g.folded;
+      }
+
+  -- what a crash leaves while the entry is stored stands for the log without the item or with it
+  pub leaves_more : (w : View) → StandsAt d view cells old items → entry ≡ hosted_entry d (hosted cells old.core) item
+      → LeavesOnly (view old.disk) w (FilesStandOrGain old.parts.name (log_in (view old.disk) old.parts) entry) → LeavesOnly (view old.disk) w (StandsOrGains d old.parts.name items item)
+  leaves_more w at is only =
+      weaker (view old.disk) w (FilesStandOrGain old.parts.name (log_in (view old.disk) old.parts) entry) (StandsOrGains d old.parts.name items item) only
+      (λ c has. ⊎_elim (λ old_log. inl (subst (λ (l : List Entry). Stands (folder old.parts.name c) l) at.stored old_log))
+      (λ new_log. inr (subst (λ (l : List Entry). Stands (folder old.parts.name c) l) (stored_more at is) new_log)) has)
+
+-- what a crash leaves of a host where nothing is done
+pub stands_for : {D M : Type 0} (d : MachineDecision) (view : D → View) (cells : M → Cells) (h : Seen D M) (items : List Item) → StandsAt d view cells h items
+    → Fits (view h.disk) h.parts.name h.parts.tail h.parts.greatest → (c : Image) → MayLeave (view h.disk) c → StandsFor d h.parts.name c items
+stands_for d view cells h items at fits c may =
+    subst (λ (l : List Entry). Stands (folder h.parts.name c) l) at.stored (stands_now (view h.disk) h.parts.name h.parts.tail h.parts.greatest fits at.held c may)
+
+pub stays_so : {D M : Type 0} (d : MachineDecision) (view : D → View) (cells : M → Cells) (h : Seen D M) (items : List Item) (item : Item) → IsDiskSound (view h.disk) → StandsAt d view cells h items
+    → Fits (view h.disk) h.parts.name h.parts.tail h.parts.greatest → LeavesOnly (view h.disk) (view h.disk) (StandsOrGains d h.parts.name items item)
+stays_so d view cells h items item sound at fits =
+    started (view h.disk) (StandsOrGains d h.parts.name items item) sound (λ c may. inl (stands_for d view cells h items at fits c may))
+
+-- ---- refusals
+
+pub by_state : (a : Admission) (parts : Parts) (why : Refusal) → a ≡ Refused why → admits_stored a parts ≡ Refused why
+by_state a parts why is = ap (λ (x : Admission). admits_stored x parts) is
+
+alone : (a : Admission) → first_refusal (a ∷ []) ≡ a
+alone Admitted = refl
+alone (Repeats reply) = refl
+alone (Refused why) = refl
+
+pub by_files : (a b : Admission) (parts : Parts) → a ≡ Admitted → admits_file parts ≡ b → admits_stored a parts ≡ b
+by_files a b parts is files = ap (λ (x : Admission). admits_stored x parts) is ∙ ap (λ (x : Admission). first_refusal (x ∷ [])) files ∙ alone b
+
+-- ---- what is admitted is in range, and of a kind that is stored
+
+pub item_in_range : (d : MachineDecision) (s : Hosted) (item : Item) (entry : Entry) → MachineIsLawful d → IsSound s → ItemFits item → IsTrue (is_hosted_admitted d s item) → entry ≡ hosted_entry d s item
+    → EntryFits entry × IsInRange (s.last + 1) entry
+item_in_range d s item entry lawful sound fit ok is = subst (λ (e : Entry). EntryFits e × IsInRange (s.last + 1) e) (sym is) (admitted_in_range d s item lawful sound fit ok)
+
+choice_is_built : (session seq : ℕ) (c : Choice) → ((effect : Effect) (reply : Reply) → c ≡ Decides effect reply → is_built_effect effect ≡ true) → is_built (choice_body session seq c) ≡ true
+choice_is_built session seq (Decides effect reply) built = built effect reply refl
+choice_is_built session seq (Declines why) built = refl
+
+ask_is_built : (d : MachineDecision) (s : Hosted) (ask : Ask) → StoresBuilt d → is_built (body_of (hosted_command d s) ask) ≡ true
+ask_is_built d s (asks.Register timeout) built = refl
+ask_is_built d s (asks.Alive session seq event) built = refl
+ask_is_built d s (asks.Unregister session) built = refl
+ask_is_built d s asks.Tick built = refl
+ask_is_built d s (asks.Command session seq name op) built =
+    choice_is_built session seq (hosted_choice d s session name op) (λ effect reply is. built (machine_cells s.cells) name op session (s.last + 1) effect reply is)
+
+stored_is_built : (d : MachineDecision) (s : Hosted) (item : Item) → StoresBuilt d → is_built (hosted_entry d s item).body ≡ true
+stored_is_built d s (Offered o) built = ask_is_built d s o.ask built
+stored_is_built d s (Expired time session) built = refl
+
+pub item_is_built : (d : MachineDecision) (s : Hosted) (item : Item) (entry : Entry) → StoresBuilt d → entry ≡ hosted_entry d s item → is_built entry.body ≡ true
+item_is_built d s item entry built is = ap (λ (e : Entry). is_built e.body) is ∙ stored_is_built d s item built
+
+-- an offer that is admitted
+pub offer_admitted : (d : MachineDecision) (s : Hosted) (o : Offer) → hosted_admits d s o ≡ Admitted → IsTrue (is_hosted_admitted d s (Offered o))
+offer_admitted d s o is = ap is_admission is
+
+-- ---- the answer to what was stored
+
+not_repeated : (index : ℕ) (body : Body) (X Y : Type 0) → Y → OnAnswer (Ok (answer_of index body)) X Y
+not_repeated index (bodies.Register timeout) X Y y = y
+not_repeated index (bodies.Alive session seq event) X Y y = y
+not_repeated index (bodies.Close session expired) X Y y = y
+not_repeated index bodies.Tick X Y y = y
+not_repeated index (bodies.Command session seq effect reply) X Y y = y
+
+-- it is no repeat
+pub answered : (index : ℕ) (body : Body) (answer : Answer) (X Y : Type 0) → answer ≡ answer_of index body → Y → OnAnswer (Ok answer) X Y
+answered index body answer X Y is y = subst (λ (a : Answer). OnAnswer (Ok a) X Y) (sym is) (not_repeated index body X Y y)
+
+-- ---- who expires
+
+-- the due session with the least id does, where the time isn't early and the log goes on
+pub expires_so : (s : Hosted) (time session : ℕ) → s.now ≤ time → due_in time s.sessions ≡ Some session → s.last < last_limit → hosted_expires s time ≡ Expires session
+expires_so s time session late due short =
+    ap (λ (b : Bool). cond b (Not_now (Time s.now)) (expires_due s.last (due_in time s.sessions))) (not_below time s.now late)
+    ∙ ap (expires_due s.last) due
+    ∙ ap (λ (b : Bool). cond b (Not_now LogEnd) (Expires session)) (not_within last_limit s.last short)
+  where
+    not_below : (a b : ℕ) → b ≤ a → nat_lt a b ≡ false
+    not_below a b le = grind (arith, nat_tests)
+
+    not_within : (a b : ℕ) → b < a → nat_le a b ≡ false
+    not_within a b lt = grind (arith, nat_tests)
+
+pub expiry_admitted : (d : MachineDecision) (s : Hosted) (time session : ℕ) → hosted_expires s time ≡ Expires session → IsTrue (is_hosted_admitted d s (Expired time session))
+expiry_admitted d s time session is = ap (is_expiry_of session) is ∙ nat_eq_equiv.refl session
+
+module _ {D M : Type 0} (d : MachineDecision) (view : D → View) (cells : M → Cells) (h : Seen D M) (items : List Item) (time : ℕ) where
+  none_expired : (expiry : Expiry) (c : Image) → StandsFor d h.parts.name c items → StandsOrExpires d h.parts.name items time expiry c
+  none_expired (Expires session) c stands = inl stands
+  none_expired Nobody c stands = stands
+  none_expired (Not_now why) c stands = stands
+
+  -- a log that is left alone stays, whoever is due
+  pub stays_unexpired : (expiry : Expiry) → IsDiskSound (view h.disk) → StandsAt d view cells h items → Fits (view h.disk) h.parts.name h.parts.tail h.parts.greatest
+      → LeavesOnly (view h.disk) (view h.disk) (StandsOrExpires d h.parts.name items time expiry)
+  stays_unexpired expiry sound at fits =
+      started (view h.disk) (StandsOrExpires d h.parts.name items time expiry) sound (λ c may. none_expired expiry c (stands_for d view cells h items at fits c may))

@@ -1,0 +1,6 @@
+pub mod Files
+pub mod Growing
+pub mod Laying
+pub mod Openings
+pub mod Staying
+pub mod Stores

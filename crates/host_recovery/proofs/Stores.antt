@@ -1,0 +1,31 @@
+-- What an entry that is stored leaves of a host's files, and what a crash leaves on the way.
+use Rattle.std.proofs.Common.{◌≡◌, ℕ, ◌+◌, true, List, [], ◌∷◌, inl, subst, ◌∙◌, ap}
+use Rattle.host_types.specs.declared.entry.Entry.{Entry}
+use Rattle.host_types.specs.Ranges.{EntryFits, IsInRange}
+use Rattle.disk_model.specs.View.{View, IsSound, LeavesOnly}
+use Rattle.disk_model.proofs.Moments.{started}
+use Rattle.segment_files.specs.Parse.{is_built}
+use Rattle.segment_files.specs.Contents.{frame_bytes}
+use Rattle.segment_set.specs.declared.parts.Parts.{Parts}
+use Rattle.segment_set.specs.Fits.{Fits, IsEmptyWhereNone, IsFrameFor, IsHeld, StandsOrGains}
+use Rattle.segment_set.proofs.Emptied.{held_empty}
+use Rattle.host_recovery.specs.Standing.{log_in}
+use Rattle.host_recovery.proofs.Files.{stands_now}
+
+-- the frame is one for the entry behind the last
+pub frame_for : (last index : ℕ) (frame : List ℕ) (entry : Entry) → index ≡ last → is_built entry.body ≡ true → IsInRange (index + 1) entry → EntryFits entry → frame ≡ frame_bytes ((index + 1, entry) ∷ []) → IsFrameFor last frame entry
+frame_for last index frame entry is built range fits bytes = record {
+  built = built;
+  range = subst (λ (n : ℕ). IsInRange (n + 1) entry) is range;
+  fits = fits;
+  bytes = bytes ∙ ap (λ (n : ℕ). frame_bytes ((n + 1, entry) ∷ [])) is;
+}
+
+-- nothing was done yet
+pub not_yet : (v : View) (parts : Parts) (entry : Entry) → IsSound v → Fits v parts.name parts.tail parts.greatest → IsHeld v parts.name parts.tail
+    → LeavesOnly v v (StandsOrGains parts.name (log_in v parts) entry)
+not_yet v parts entry sound fits held =
+    started v (StandsOrGains parts.name (log_in v parts) entry) sound (λ c may. inl (stands_now v parts.name parts.tail parts.greatest fits held c may))
+
+pub stays_empty : (v : View) (parts : Parts) → Fits v parts.name parts.tail parts.greatest → IsHeld v parts.name parts.tail → IsEmptyWhereNone v parts.name
+stays_empty v parts fits held = held_empty v parts.name parts.tail parts.greatest fits held

@@ -1,0 +1,113 @@
+use Rattle.std.proofs.Common.{◌≡◌, ◌+◌, false, IsTrue, List, Ok, ap, sym, subst, ◌∙◌}
+use Rattle.host_types.specs.Ranges.{IsInRange}
+use Rattle.disk_model.specs.View.{LeavesOnly}
+use Rattle.segment_set.specs.Fits.{IsEmptyWhereNone}
+use Rattle.log_model.specs.Admission.{Item, Offered, Admitted, Refused}
+use Rattle.log_model.specs.Hosted.{hosted_admits, hosted_entry}
+use Rattle.host_core.specs.declared.deciding.Decided.{Decided}
+use Rattle.host_core.specs.declared.deciding.DecideError.{DecideError}
+use Rattle.host_core.specs.Answers.{Decides_as, IsWhy}
+use Rattle.host_core.specs.Seen.{hosted}
+use Rattle.host_recovery.specs.Seen.{Seen}
+use Rattle.host_recovery.specs.Standing.{StandsAt, StandsOrGains}
+use Rattle.host_recovery.specs.Answers.{admits_stored}
+use Rattle.host_recovery.proofs.Stores.{stays_empty}
+use Rattle.host_recovery.proofs.Growing.{answered, by_files, by_state, item_in_range, item_is_built, leaves_more, offer_admitted, stands_more, stays_so}
+use Rattle.host_recovery.proofs.host.Host.offer.Goals as goal
+
+pub returns-in-Ok-Repeat-clause-any_moment : goal.returns-in-Ok-Repeat-clause-any_moment
+returns-in-Ok-Repeat-clause-any_moment g c =
+    subst (λ (h : Seen g.row.D.Denot g.row.M.Denot). IsTrue g.D.Disk.tells → (items : List Item) → StandsAt g.M.Machine.decides g.D.Disk.view g.M.Machine.cells h items → LeavesOnly (g.D.Disk.view h.disk) (g.D.Disk.view h.disk) (StandsOrGains g.M.Machine.decides h.parts.name items (Offered c.args.one.now))) c.self.view_is
+    (λ t items at. stays_so g.M.Machine.decides g.D.Disk.view g.M.Machine.cells (record { disk = c.self.inside.disk; parts = c.self.inside.parts; core = c.self.inside.core; size = c.self.inside.size; stopped = c.self.inside.stopped }) items (Offered c.args.one.now) (g.met.D.Disk.sound c.self.inside.disk t) at (c.self.invariant.fits c.if-self.false t))
+
+pub returns-in-Ok-Repeat-clause-empty : goal.returns-in-Ok-Repeat-clause-empty
+returns-in-Ok-Repeat-clause-empty g c =
+    subst (λ (h : Seen g.row.D.Denot g.row.M.Denot). IsTrue g.D.Disk.tells → (items : List Item) → StandsAt g.M.Machine.decides g.D.Disk.view g.M.Machine.cells h items → IsEmptyWhereNone (g.D.Disk.view h.disk) h.parts.name) c.self.view_is
+    (λ t items at. stays_empty (g.D.Disk.view c.self.inside.disk) c.self.inside.parts (c.self.invariant.fits c.if-self.false t) at.held)
+
+pub returns-in-Err-Refused-clause-any_moment : goal.returns-in-Err-Refused-clause-any_moment
+returns-in-Err-Refused-clause-any_moment g c =
+    subst (λ (h : Seen g.row.D.Denot g.row.M.Denot). IsTrue g.D.Disk.tells → (items : List Item) → StandsAt g.M.Machine.decides g.D.Disk.view g.M.Machine.cells h items → LeavesOnly (g.D.Disk.view h.disk) (g.D.Disk.view h.disk) (StandsOrGains g.M.Machine.decides h.parts.name items (Offered c.args.one.now))) c.self.view_is
+    (λ t items at. stays_so g.M.Machine.decides g.D.Disk.view g.M.Machine.cells (record { disk = c.self.inside.disk; parts = c.self.inside.parts; core = c.self.inside.core; size = c.self.inside.size; stopped = c.self.inside.stopped }) items (Offered c.args.one.now) (g.met.D.Disk.sound c.self.inside.disk t) at (c.self.invariant.fits c.if-self.false t))
+
+pub returns-in-Err-Refused-clause-empty : goal.returns-in-Err-Refused-clause-empty
+returns-in-Err-Refused-clause-empty g c =
+    subst (λ (h : Seen g.row.D.Denot g.row.M.Denot). IsTrue g.D.Disk.tells → (items : List Item) → StandsAt g.M.Machine.decides g.D.Disk.view g.M.Machine.cells h items → IsEmptyWhereNone (g.D.Disk.view h.disk) h.parts.name) c.self.view_is
+    (λ t items at. stays_empty (g.D.Disk.view c.self.inside.disk) c.self.inside.parts (c.self.invariant.fits c.if-self.false t) at.held)
+
+pub returns-in-Err-NoMemory-clause-any_moment : goal.returns-in-Err-NoMemory-clause-any_moment
+returns-in-Err-NoMemory-clause-any_moment g c =
+    subst (λ (h : Seen g.row.D.Denot g.row.M.Denot). IsTrue g.D.Disk.tells → (items : List Item) → StandsAt g.M.Machine.decides g.D.Disk.view g.M.Machine.cells h items → LeavesOnly (g.D.Disk.view h.disk) (g.D.Disk.view h.disk) (StandsOrGains g.M.Machine.decides h.parts.name items (Offered c.args.one.now))) c.self.view_is
+    (λ t items at. stays_so g.M.Machine.decides g.D.Disk.view g.M.Machine.cells (record { disk = c.self.inside.disk; parts = c.self.inside.parts; core = c.self.inside.core; size = c.self.inside.size; stopped = c.self.inside.stopped }) items (Offered c.args.one.now) (g.met.D.Disk.sound c.self.inside.disk t) at (c.self.invariant.fits c.if-self.false t))
+
+pub returns-in-Err-NoMemory-clause-empty : goal.returns-in-Err-NoMemory-clause-empty
+returns-in-Err-NoMemory-clause-empty g c =
+    subst (λ (h : Seen g.row.D.Denot g.row.M.Denot). IsTrue g.D.Disk.tells → (items : List Item) → StandsAt g.M.Machine.decides g.D.Disk.view g.M.Machine.cells h items → IsEmptyWhereNone (g.D.Disk.view h.disk) h.parts.name) c.self.view_is
+    (λ t items at. stays_empty (g.D.Disk.view c.self.inside.disk) c.self.inside.parts (c.self.invariant.fits c.if-self.false t) at.held)
+
+pub returns-in-Some-clause-any_moment : goal.returns-in-Some-clause-any_moment
+returns-in-Some-clause-any_moment g c =
+    subst (λ (h : Seen g.row.D.Denot g.row.M.Denot). IsTrue g.D.Disk.tells → (items : List Item) → StandsAt g.M.Machine.decides g.D.Disk.view g.M.Machine.cells h items → LeavesOnly (g.D.Disk.view h.disk) (g.D.Disk.view h.disk) (StandsOrGains g.M.Machine.decides h.parts.name items (Offered c.args.one.now))) c.self.view_is
+    (λ t items at. stays_so g.M.Machine.decides g.D.Disk.view g.M.Machine.cells (record { disk = c.self.inside.disk; parts = c.self.inside.parts; core = c.self.inside.core; size = c.self.inside.size; stopped = c.self.inside.stopped }) items (Offered c.args.one.now) (g.met.D.Disk.sound c.self.inside.disk t) at (c.self.invariant.fits c.if-self.false t))
+
+pub returns-in-Some-clause-empty : goal.returns-in-Some-clause-empty
+returns-in-Some-clause-empty g c =
+    subst (λ (h : Seen g.row.D.Denot g.row.M.Denot). IsTrue g.D.Disk.tells → (items : List Item) → StandsAt g.M.Machine.decides g.D.Disk.view g.M.Machine.cells h items → IsEmptyWhereNone (g.D.Disk.view h.disk) h.parts.name) c.self.view_is
+    (λ t items at. stays_empty (g.D.Disk.view c.self.inside.disk) c.self.inside.parts (c.self.invariant.fits c.if-self.false t) at.held)
+
+pub returns-in-Err-clause-any_moment : goal.returns-in-Err-clause-any_moment
+returns-in-Err-clause-any_moment g c =
+    subst (λ (h : Seen g.row.D.Denot g.row.M.Denot). IsTrue g.D.Disk.tells → (items : List Item) → StandsAt g.M.Machine.decides g.D.Disk.view g.M.Machine.cells h items → LeavesOnly (g.D.Disk.view h.disk) (g.D.Disk.view h.disk) (StandsOrGains g.M.Machine.decides h.parts.name items (Offered c.args.one.now))) c.self.view_is
+    (λ t items at. stays_so g.M.Machine.decides g.D.Disk.view g.M.Machine.cells (record { disk = c.self.inside.disk; parts = c.self.inside.parts; core = c.self.inside.core; size = c.self.inside.size; stopped = c.self.inside.stopped }) items (Offered c.args.one.now) (g.met.D.Disk.sound c.self.inside.disk t) at (c.self.invariant.fits c.if-self.false t))
+
+pub returns-in-Err-clause-empty : goal.returns-in-Err-clause-empty
+returns-in-Err-clause-empty g c =
+    subst (λ (h : Seen g.row.D.Denot g.row.M.Denot). IsTrue g.D.Disk.tells → (items : List Item) → StandsAt g.M.Machine.decides g.D.Disk.view g.M.Machine.cells h items → IsEmptyWhereNone (g.D.Disk.view h.disk) h.parts.name) c.self.view_is
+    (λ t items at. stays_empty (g.D.Disk.view c.self.inside.disk) c.self.inside.parts (c.self.invariant.fits c.if-self.false t) at.held)
+
+pub returns-in-Err-Refused-clause-answer : goal.returns-in-Err-Refused-clause-answer
+returns-in-Err-Refused-clause-answer g c = (
+  sym (ap (λ (h : Seen g.row.D.Denot g.row.M.Denot). h.stopped) c.self.view_is) ∙ c.if-self.false,
+  subst (λ (h : Seen g.row.D.Denot g.row.M.Denot). admits_stored (hosted_admits g.M.Machine.decides (hosted g.M.Machine.cells h.core) c.args.one.now) h.parts ≡ Refused c.in-Err-Refused.why) c.self.view_is
+      (by_state (hosted_admits g.M.Machine.decides (hosted g.M.Machine.cells c.self.inside.core) c.args.one.now) c.self.inside.parts c.in-Err-Refused.why
+      (subst (λ (e : DecideError). IsWhy (hosted_admits g.M.Machine.decides (hosted g.M.Machine.cells c.self.inside.core) c.args.one.now) e) c.in-Err-Refused.field-0-is c.in-Err-Refused.ensures.decided)) ∙ ap Refused (sym c.in-Err-Refused.why-is),
+)
+
+pub returns-in-Some-clause-answer : goal.returns-in-Some-clause-answer
+returns-in-Some-clause-answer g c =
+    let decided = (subst (λ (x : Decided). Decides_as (hosted_admits g.M.Machine.decides (hosted g.M.Machine.cells c.self.inside.core) c.args.one.now) (hosted_entry g.M.Machine.decides (hosted g.M.Machine.cells c.self.inside.core) (Offered c.args.one.now)) (Ok x)) c.in-Ok-Store.field-0-is c.in-Ok-Store.ensures.decided) in
+    subst (λ (h : Seen g.row.D.Denot g.row.M.Denot). (h.stopped ≡ false) × (admits_stored (hosted_admits g.M.Machine.decides (hosted g.M.Machine.cells h.core) c.args.one.now) h.parts ≡ Refused c.in-Some.why)) c.self.view_is
+    (c.if-self.false, by_files (hosted_admits g.M.Machine.decides (hosted g.M.Machine.cells c.self.inside.core) c.args.one.now) (Refused c.in-Some.why) c.self.inside.parts decided.0 c.in-Some.ensures)
+
+pub store-requires-clause-fits : goal.store-requires-clause-fits
+store-requires-clause-fits g c =
+    let decided = (subst (λ (x : Decided). Decides_as (hosted_admits g.M.Machine.decides (hosted g.M.Machine.cells c.self.inside.core) c.args.one.now) (hosted_entry g.M.Machine.decides (hosted g.M.Machine.cells c.self.inside.core) (Offered c.args.one.now)) (Ok x)) c.in-Ok-Store.field-0-is c.in-Ok-Store.ensures.decided) in
+    (item_in_range g.M.Machine.decides (hosted g.M.Machine.cells c.self.inside.core) (Offered c.args.one.now) c.in-Ok-Store.entry g.met.M.Machine.lawful c.keeps.ensures.sound c.fits.ensures (offer_admitted g.M.Machine.decides (hosted g.M.Machine.cells c.self.inside.core) c.args.one.now decided.0) decided.1).0
+
+pub store-requires-clause-range : goal.store-requires-clause-range
+store-requires-clause-range g c =
+    let decided = (subst (λ (x : Decided). Decides_as (hosted_admits g.M.Machine.decides (hosted g.M.Machine.cells c.self.inside.core) c.args.one.now) (hosted_entry g.M.Machine.decides (hosted g.M.Machine.cells c.self.inside.core) (Offered c.args.one.now)) (Ok x)) c.in-Ok-Store.field-0-is c.in-Ok-Store.ensures.decided) in
+    subst (λ (h : Seen g.row.D.Denot g.row.M.Denot). IsInRange (h.core.last + 1) c.in-Ok-Store.entry) c.self.view_is
+    (item_in_range g.M.Machine.decides (hosted g.M.Machine.cells c.self.inside.core) (Offered c.args.one.now) c.in-Ok-Store.entry g.met.M.Machine.lawful c.keeps.ensures.sound c.fits.ensures (offer_admitted g.M.Machine.decides (hosted g.M.Machine.cells c.self.inside.core) c.args.one.now decided.0) decided.1).1
+
+pub store-requires-clause-built : goal.store-requires-clause-built
+store-requires-clause-built g c =
+    let decided = (subst (λ (x : Decided). Decides_as (hosted_admits g.M.Machine.decides (hosted g.M.Machine.cells c.self.inside.core) c.args.one.now) (hosted_entry g.M.Machine.decides (hosted g.M.Machine.cells c.self.inside.core) (Offered c.args.one.now)) (Ok x)) c.in-Ok-Store.field-0-is c.in-Ok-Store.ensures.decided) in
+    item_is_built g.M.Machine.decides (hosted g.M.Machine.cells c.self.inside.core) (Offered c.args.one.now) c.in-Ok-Store.entry c.self.invariant.built decided.1
+
+pub returns-in-Ok-store-clause-stands : goal.returns-in-Ok-store-clause-stands
+returns-in-Ok-store-clause-stands g c = λ t items at.
+    let decided = (subst (λ (h : Seen g.row.D.Denot g.row.M.Denot). (hosted_admits g.M.Machine.decides (hosted g.M.Machine.cells h.core) c.args.one.now ≡ Admitted) × (c.in-Ok-Store.entry ≡ hosted_entry g.M.Machine.decides (hosted g.M.Machine.cells h.core) (Offered c.args.one.now))) c.self.view_is (subst (λ (x : Decided). Decides_as (hosted_admits g.M.Machine.decides (hosted g.M.Machine.cells c.self.inside.core) c.args.one.now) (hosted_entry g.M.Machine.decides (hosted g.M.Machine.cells c.self.inside.core) (Offered c.args.one.now)) (Ok x)) c.in-Ok-Store.field-0-is c.in-Ok-Store.ensures.decided)) in
+    answered (c.last.result + 1) c.in-Ok-Store.entry.body c.in-Ok.answer _ _ c.in-Ok.ensures
+    (stands_more g.M.Machine.decides g.D.Disk.view g.M.Machine.cells c.args.self.now items (Offered c.args.one.now) c.in-Ok-Store.entry c.store.new.self g.met.M.Machine.lawful at c.fits.ensures (offer_admitted g.M.Machine.decides (hosted g.M.Machine.cells c.args.self.now.core) c.args.one.now decided.0) decided.1
+    c.in-Ok-store.ensures.runs c.in-Ok-store.ensures.state (c.in-Ok-store.ensures.log t) (c.in-Ok-store.ensures.held t at.held))
+
+pub returns-in-Ok-store-clause-any_moment : goal.returns-in-Ok-store-clause-any_moment
+returns-in-Ok-store-clause-any_moment g c = λ t items at.
+    let decided = (subst (λ (h : Seen g.row.D.Denot g.row.M.Denot). (hosted_admits g.M.Machine.decides (hosted g.M.Machine.cells h.core) c.args.one.now ≡ Admitted) × (c.in-Ok-Store.entry ≡ hosted_entry g.M.Machine.decides (hosted g.M.Machine.cells h.core) (Offered c.args.one.now))) c.self.view_is (subst (λ (x : Decided). Decides_as (hosted_admits g.M.Machine.decides (hosted g.M.Machine.cells c.self.inside.core) c.args.one.now) (hosted_entry g.M.Machine.decides (hosted g.M.Machine.cells c.self.inside.core) (Offered c.args.one.now)) (Ok x)) c.in-Ok-Store.field-0-is c.in-Ok-Store.ensures.decided)) in
+    leaves_more g.M.Machine.decides g.D.Disk.view g.M.Machine.cells c.args.self.now items (Offered c.args.one.now) c.in-Ok-Store.entry (g.D.Disk.view c.store.new.self.disk) at decided.1 (c.store.ensures.any_moment t at.held)
+
+pub returns-in-Err-store-clause-any_moment : goal.returns-in-Err-store-clause-any_moment
+returns-in-Err-store-clause-any_moment g c = λ t items at.
+    let decided = (subst (λ (h : Seen g.row.D.Denot g.row.M.Denot). (hosted_admits g.M.Machine.decides (hosted g.M.Machine.cells h.core) c.args.one.now ≡ Admitted) × (c.in-Ok-Store.entry ≡ hosted_entry g.M.Machine.decides (hosted g.M.Machine.cells h.core) (Offered c.args.one.now))) c.self.view_is (subst (λ (x : Decided). Decides_as (hosted_admits g.M.Machine.decides (hosted g.M.Machine.cells c.self.inside.core) c.args.one.now) (hosted_entry g.M.Machine.decides (hosted g.M.Machine.cells c.self.inside.core) (Offered c.args.one.now)) (Ok x)) c.in-Ok-Store.field-0-is c.in-Ok-Store.ensures.decided)) in
+    leaves_more g.M.Machine.decides g.D.Disk.view g.M.Machine.cells c.args.self.now items (Offered c.args.one.now) c.in-Ok-Store.entry (g.D.Disk.view c.store.new.self.disk) at decided.1 (c.store.ensures.any_moment t at.held)

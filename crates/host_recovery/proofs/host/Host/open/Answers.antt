@@ -1,0 +1,41 @@
+use Rattle.std.proofs.Common.{◌≡◌, refl, false, ℕ, List, Err, ap, subst, sym, ◌∙◌}
+use Rattle.disk_model.proofs.Moments.{weaker}
+use Rattle.segment_files.specs.Folder.{StandsForPrefix, IsChoice, folder, entries_of}
+use Rattle.segment_set.specs.declared.opening.OpenError.TheVariants.{Damaged as Is_damaged}
+use Rattle.segment_set.specs.Fits.{Fits, IsHeld, parts_in}
+use Rattle.log_model.specs.Hosted.{hosted_stored, hosted_told}
+use Rattle.log_model.specs.Replay.{replayed}
+use Rattle.host_core.specs.Seen.{hosted}
+use Rattle.host_recovery.specs.Opening.{HasPrefix, IsInOrder}
+use Rattle.host_recovery.proofs.Openings.{entries_prefix, items_prefix, opens_at}
+use Rattle.host_recovery.proofs.host.Host.open.Goals as goal
+
+pub returns-in-Ok-clause-stands : goal.returns-in-Ok-clause-stands
+returns-in-Ok-clause-stands g c = λ t items least order.
+    let name = c.in-Ok.ensures.name in
+    opens_at g.M.Machine.decides g.D.Disk.view g.M.Machine.cells (g.D.Disk.view c.args.disk) (record { disk = c.load.new.disk; parts = c.in-Ok.parts; core = c.load.new.core; size = c.args.segment; stopped = false }) items least
+    g.met.M.Machine.lawful g.met.M.Machine.one_owner (g.met.D.Disk.sound c.args.disk t)
+    (subst (λ (n : List ℕ). IsInOrder g.M.Machine.decides (g.D.Disk.view c.args.disk) n items least) (sym name) order) refl
+    (subst (λ (n : List ℕ). Fits (g.D.Disk.view c.load.new.disk) n c.in-Ok.parts.tail c.in-Ok.parts.greatest) (sym name) (c.in-Ok.ensures.fits t))
+    (subst (λ (n : List ℕ). IsChoice (folder n (g.D.Disk.view c.args.disk).reading) (parts_in (g.D.Disk.view c.load.new.disk).reading n c.in-Ok.parts.tail)) (sym name) (c.in-Ok.ensures.choice t))
+    (subst (λ (n : List ℕ). IsHeld (g.D.Disk.view c.load.new.disk) n c.in-Ok.parts.tail) (sym name) (c.in-Ok.ensures.held t order.empty))
+    (subst (λ (n : List ℕ). hosted g.M.Machine.cells c.load.new.core ≡ replayed (hosted_told g.M.Machine.decides) 0 (entries_of (parts_in (g.D.Disk.view c.load.new.disk).reading n c.in-Ok.parts.tail))) (sym name) (c.in-Ok.ensures.state t))
+
+pub returns-in-Ok-clause-any_moment : goal.returns-in-Ok-clause-any_moment
+returns-in-Ok-clause-any_moment g c = λ t items least order.
+    let d = g.M.Machine.decides in
+    weaker (g.D.Disk.view c.args.disk) (g.D.Disk.view c.load.new.disk) (StandsForPrefix c.args.name.now (hosted_stored d items) least) (HasPrefix d c.args.name.now items least)
+    (c.load.ensures.any_moment t (hosted_stored d items) least (λ image may. entries_prefix d c.args.name.now items least image (order.each image may)))
+    (λ image has. items_prefix d c.args.name.now items least image has)
+
+pub returns-in-Err-clause-any_moment : goal.returns-in-Err-clause-any_moment
+returns-in-Err-clause-any_moment g c = λ t items least order.
+    let d = g.M.Machine.decides in
+    weaker (g.D.Disk.view c.args.disk) (g.D.Disk.view c.load.new.disk) (StandsForPrefix c.args.name.now (hosted_stored d items) least) (HasPrefix d c.args.name.now items least)
+    (c.load.ensures.any_moment t (hosted_stored d items) least (λ image may. entries_prefix d c.args.name.now items least image (order.each image may)))
+    (λ image has. items_prefix d c.args.name.now items least image has)
+
+pub returns-in-Err-clause-damaged : goal.returns-in-Err-clause-damaged
+returns-in-Err-clause-damaged g c = λ base generation at err.
+    let e : c.in-Err.error ≡ Is_damaged base generation at = cc err in
+    c.load.ensures.damaged base generation at (c.in-Err.is ∙ ap Err e)

@@ -1,0 +1,5 @@
+pub mod Answers
+pub mod Lying
+pub mod Opening
+pub mod Seen
+pub mod Standing

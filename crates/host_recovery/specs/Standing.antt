@@ -1,0 +1,76 @@
+-- The log that a host stands at, and what its files are.
+use Rattle.std.specs.Prelude.{◌≡◌, ◌≤◌, ◌⊎◌, ℕ, Bool, true, false, List, [], ◌∷◌, ◌++◌, map, IsTrue}
+use Rattle.host_types.specs.declared.entry.Entry.{Entry}
+use Rattle.host_types.specs.Cells.{Cells}
+use Rattle.host_types.specs.Decision.{Decides, MachineDecision}
+use Rattle.host_types.specs.declared.entry.Effect.{Effect}
+use Rattle.host_types.specs.declared.entry.Op.{Op}
+use Rattle.host_types.specs.declared.entry.Reply.{Reply}
+use Rattle.disk_model.specs.Image.{Image}
+use Rattle.disk_model.specs.View.{View}
+use Rattle.segment_files.specs.Parse.{Part, is_built_effect}
+use Rattle.segment_files.specs.Folder.{folder, Stands}
+use Rattle.segment_set.specs.declared.parts.Parts.{Parts}
+use Rattle.segment_set.specs.Fits.{Fits, IsHeld, last_of, log_of, parts_in}
+use Rattle.log_model.specs.Admission.{Item, Expired, Expiry, Expires, Nobody, Not_now}
+use Rattle.log_model.specs.Fitting.{ItemsFit}
+use Rattle.log_model.specs.Hosted.{hosted_folded, hosted_stored, is_hosted_log}
+use Rattle.log_model.specs.Layout.{Layout, PartLayout}
+use Rattle.host_core.specs.Seen.{hosted}
+use Rattle.host_recovery.specs.Seen.{Seen}
+
+-- a log that a host may have taken: each item was admitted where it stands, and is as the program's types have it
+pub record IsLog (d : MachineDecision) (items : List Item) : Type 0 where
+  pub admitted : IsTrue (is_hosted_log d items)
+  pub fits : ItemsFit items
+
+-- under this name an image stands for this log: its parts hold the log's stored form
+abbrev pub StandsFor : MachineDecision → List ℕ → Image → List Item → Type 0
+StandsFor d name image items = Stands (folder name image) (hosted_stored d items)
+
+-- an image stands for the log without the item or with it
+abbrev pub StandsOrGains : MachineDecision → List ℕ → List Item → Item → Image → Type 0
+StandsOrGains d name items item image = StandsFor d name image items ⊎ StandsFor d name image (items ++ item ∷ [])
+
+-- or without the end of a session that expires, or with it
+abbrev pub StandsOrExpires : MachineDecision → List ℕ → List Item → ℕ → Expiry → Image → Type 0
+StandsOrExpires d name items time (Expires session) image = StandsOrGains d name items (Expired time session) image
+StandsOrExpires d name items time Nobody image = StandsFor d name image items
+StandsOrExpires d name items time (Not_now why) image = StandsFor d name image items
+
+-- what the files of a host hold
+abbrev pub log_in : View → Parts → List Entry
+log_in v parts = log_of (parts_in v.reading parts.name parts.tail)
+
+abbrev pub part_layout : Part → PartLayout
+part_layout p = record { base = p.id.base; last = p.last; present = map (λ (e : ℕ × Entry). e.0) p.entries; cut = p.cut; floor = p.floor; generation = p.id.generation; size = p.size; rewritten = p.rewritten }
+
+-- and how they lie
+abbrev pub layout_in : View → Parts → Layout
+layout_in v parts = record { parts = map part_layout (parts_in v.reading parts.name parts.tail); greatest = parts.greatest }
+
+-- A host stands at a log: it runs, its files hold the log's stored form, so does whatever a crash leaves now, and its state is what
+-- the log comes to.
+pub record StandsAt {D M : Type 0} (d : MachineDecision) (view : D → View) (cells : M → Cells) (h : Seen D M) (items : List Item) : Type 0 where
+  pub runs : h.stopped ≡ false
+  pub log : IsLog d items
+  pub stored : log_in (view h.disk) h.parts ≡ hosted_stored d items
+  pub held : IsHeld (view h.disk) h.parts.name h.parts.tail
+  pub state : hosted cells h.core ≡ hosted_folded d items
+
+-- whatever the machine decides, files may hold its effect today
+abbrev pub StoresBuilt : MachineDecision → Type 0
+StoresBuilt d =
+    (cells : Cells) (name : List ℕ) (op : Op) (session index : ℕ) (effect : Effect) (reply : Reply)
+    → d.resolve cells name op session index ≡ Decides effect reply
+    → is_built_effect effect ≡ true
+
+-- ---- what a host keeps
+
+-- Where it runs, the disk fits what is remembered of the files, which have as many entries as the core took.
+pub record IsKept {D M : Type 0} (tells : Bool) (view : D → View) (cells : M → Cells) (d : MachineDecision) (h : Seen D M) : Type 0 where
+  pub size_first : 2 ≤ h.size
+  pub size_last : h.size ≤ 65536
+  pub built : StoresBuilt d
+  pub last : h.stopped ≡ false → h.core.last ≡ last_of h.parts.tail
+  pub fits : h.stopped ≡ false → IsTrue tells → Fits (view h.disk) h.parts.name h.parts.tail h.parts.greatest

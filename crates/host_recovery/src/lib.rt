@@ -1,0 +1,11 @@
+//! A host over the files of a disk: it decides what is offered, stores and applies it, and is opened again from what it stored.
+#![tactic(auto)]
+
+mod answers;
+mod host;
+mod opening;
+mod storing;
+mod views;
+
+pub use answers::{Answer, AskError, HostError};
+pub use host::Host;

@@ -1,0 +1,197 @@
+// A host is opened: its files are read, and the entries that they hold are replayed.
+ghost use Rattle.std.specs.Prelude.{◌≡◌, ◌≤◌, ◌+◌, ℕ, List, [], false, IsTrue, IfOk, OnOk, IsErrOf};
+ghost use Rattle.disk_model.specs.declared.file_id.FileId.{FileId};
+ghost use Rattle.disk_model.specs.View.{LeavesAt, LeavesOnly, MayHold};
+ghost use Rattle.disk_model.specs.Calls.{Stays};
+ghost use Rattle.segment_files.specs.Contents.{AreNumbered};
+ghost use Rattle.segment_files.specs.Parse.{Numbered, Part, Whole};
+ghost use Rattle.segment_files.specs.Folder.{folder, entries_of, IsChoice, IsFault, StandsForPrefix};
+ghost use Rattle.host_types.specs.declared.entry.Entry.{Entry};
+ghost use Rattle.segment_set.specs.Fits.{Fits, IsEmptyWhereNone, IsHeld, IsInOrder as FilesAreInOrder, KeepsNames, TailFits, last_of, parts_in};
+ghost use Rattle.segment_set.specs.Opening.{HasOpenCause, IsGreatestListed, id_from};
+ghost use Rattle.log_model.specs.Admission.{Item};
+ghost use Rattle.log_model.specs.Hosted.{hosted_nothing, hosted_told};
+ghost use Rattle.log_model.specs.Replay.{replay_from, replayed};
+ghost use Rattle.host_core.specs.Seen.{TellsNothing, hosted};
+ghost use Rattle.host_recovery.specs.Standing.{StoresBuilt};
+ghost use Rattle.host_recovery.specs.Opening.{HasPrefix, IsInOrder, OpensAt, disk_behind, went};
+
+use crate::host::Host;
+use disk_model::Disk;
+use host_core::Core;
+use host_types::{Entry, Index, LogName, NoMemory};
+use machine::Machine;
+use segment_files::{FileFault, entries};
+use segment_set::{OpenError, Parts, Tail};
+use std::alloc::Global;
+
+/// Replays entries, each at the index behind the one before.
+fn replay_all<M: Machine>(
+    alloc: Global,
+    core: &mut Core<M>,
+    list: Vec<(Index, Entry)>,
+) -> Result<(), NoMemory>
+    requires numbered { AreNumbered core.old.last list.items }
+    ensures { OnOk result (hosted M.cells core.new ≡ replay_from (hosted_told M.decides) 0 (hosted M.cells core.old) list.items) }
+{
+    for (index, entry) in list {
+        core.replay(alloc, index, entry, 0)?;
+    }
+    Ok(())
+}
+
+/// Replays the entries of the tail. Other entries than were counted before are damage.
+fn replay_tail<D: Disk, M: Machine>(
+    alloc: Global,
+    disk: &mut D,
+    core: &mut Core<M>,
+    name: &LogName,
+    tail: Tail,
+) -> Result<(), OpenError>
+    requires fits { IsTrue D.tells → TailFits (D.view disk.old) name.now tail }
+    requires fresh { hosted M.cells core.old ≡ hosted_nothing }
+    ensures state { OnOk result (IsTrue D.tells → (part : Part) → folder name.now (D.view disk.old).reading tail.id ≡ Whole part → hosted M.cells core.new ≡ replayed (hosted_told M.decides) 0 part.entries) }
+    ensures last { OnOk result (core.new.last ≡ tail.last) }
+    ensures damaged { (base generation at : ℕ) → IsErrOf result (OpenError.Damaged base generation at) → (at ≡ 0) × (IsTrue D.tells → ⊥) }
+    ensures stays { IsTrue D.tells → Stays (D.view disk.old) (D.view disk.new) }
+    ensures any_moment { IsTrue D.tells → LeavesAt (D.view disk.old) (D.view disk.new) (MayHold (D.view disk.old)) }
+    ensures cause { HasOpenCause (D.faults disk.old) (D.faults disk.new) result }
+{
+    let list = match entries(alloc, disk, name, tail.id) {
+        Ok(list) => list,
+        Err(FileFault::Failed) => return Err(OpenError::Disk),
+        Err(FileFault::NoMemory) => return Err(OpenError::NoMemory),
+        Err(FileFault::Damaged { .. }) => {
+            return Err(OpenError::Damaged {
+                base: tail.id.base,
+                generation: tail.id.generation,
+                at: 0,
+            });
+        }
+    };
+    match replay_all(alloc, core, list) {
+        Ok(()) => {}
+        Err(_) => return Err(OpenError::NoMemory),
+    }
+    if core.last() != tail.last {
+        return Err(OpenError::Damaged {
+            base: tail.id.base,
+            generation: tail.id.generation,
+            at: 0,
+        });
+    }
+    Ok(())
+}
+
+/// Replays what the files hold.
+fn replay_parts<D: Disk, M: Machine>(
+    alloc: Global,
+    disk: &mut D,
+    core: &mut Core<M>,
+    parts: &Parts,
+) -> Result<(), OpenError>
+    requires fits { IsTrue D.tells → Fits (D.view disk.old) parts.now.name parts.now.tail parts.now.greatest }
+    requires fresh { hosted M.cells core.old ≡ hosted_nothing }
+    ensures state { OnOk result (IsTrue D.tells → hosted M.cells core.new ≡ replayed (hosted_told M.decides) 0 (entries_of (parts_in (D.view disk.old).reading parts.now.name parts.now.tail))) }
+    ensures last { OnOk result (core.new.last ≡ last_of parts.now.tail) }
+    ensures damaged { (base generation at : ℕ) → IsErrOf result (OpenError.Damaged base generation at) → (at ≡ 0) × (IsTrue D.tells → ⊥) }
+    ensures stays { IsTrue D.tells → Stays (D.view disk.old) (D.view disk.new) }
+    ensures any_moment { IsTrue D.tells → LeavesAt (D.view disk.old) (D.view disk.new) (MayHold (D.view disk.old)) }
+    ensures cause { HasOpenCause (D.faults disk.old) (D.faults disk.new) result }
+{
+    match parts.tail {
+        Some(tail) => replay_tail(alloc, disk, core, &parts.name, tail),
+        None => Ok(()),
+    }
+}
+
+/// Opens the files of a name, and replays what they hold.
+fn load<D: Disk, M: Machine>(
+    alloc: Global,
+    disk: &mut D,
+    core: &mut Core<M>,
+    name: &LogName,
+) -> Result<Parts, OpenError>
+    requires fresh { hosted M.cells core.old ≡ hosted_nothing }
+    ensures name { IfOk result (λ parts. parts.name ≡ name.now) }
+    ensures fits { IfOk result (λ parts. IsTrue D.tells → Fits (D.view disk.new) name.now parts.tail parts.greatest) }
+    ensures state { IfOk result (λ parts. IsTrue D.tells → hosted M.cells core.new ≡ replayed (hosted_told M.decides) 0 (entries_of (parts_in (D.view disk.new).reading name.now parts.tail))) }
+    ensures last { IfOk result (λ parts. core.new.last ≡ last_of parts.tail) }
+    ensures choice { IfOk result (λ parts. IsTrue D.tells → IsChoice (folder name.now (D.view disk.old).reading) (parts_in (D.view disk.new).reading name.now parts.tail)) }
+    ensures held { IfOk result (λ parts. IsTrue D.tells → IsEmptyWhereNone (D.view disk.old) name.now → IsHeld (D.view disk.new) name.now parts.tail) }
+    ensures greatest { IfOk result (λ parts. IsTrue D.tells → IsGreatestListed (D.view disk.old) name.now parts.greatest) }
+    ensures damaged { (base generation at : ℕ) → IsErrOf result (OpenError.Damaged base generation at)
+        → (at ≡ 0) × (IsTrue D.tells → IsFault (folder name.now (D.view disk.old).reading) (id_from base generation) × ((D.view disk.new).reading ≡ (D.view disk.old).reading)) }
+    ensures unharmed { IsTrue D.tells → (id : FileId) → IsFault (folder name.now (D.view disk.old).reading) id
+        → ((D.view disk.new).reading ≡ (D.view disk.old).reading) × LeavesAt (D.view disk.old) (D.view disk.new) (MayHold (D.view disk.old)) }
+    ensures any_moment { IsTrue D.tells → (log : List Entry) (least : ℕ) → FilesAreInOrder (D.view disk.old) name.now log least
+        → LeavesOnly (D.view disk.old) (D.view disk.new) (StandsForPrefix name.now log least) }
+    ensures empty { IsTrue D.tells → IsEmptyWhereNone (D.view disk.old) name.now → IsEmptyWhereNone (D.view disk.new) name.now }
+    ensures others { IsTrue D.tells → KeepsNames (D.view disk.old) (D.view disk.new) name.now }
+    ensures cause { HasOpenCause (D.faults disk.old) (D.faults disk.new) result }
+{
+    let parts = match Parts::load(alloc, disk, name) {
+        Ok(parts) => parts,
+        Err(error) => return Err(error),
+    };
+    match replay_parts(alloc, disk, core, &parts) {
+        Ok(()) => Ok(parts),
+        Err(error) => Err(error),
+    }
+}
+
+impl<D: Disk, M: Machine> Host<D, M> {
+    /// Opens the log of a name over a machine with no cell, with so many entries before the next file is begun: what is read is what
+    /// every crash leaves from then on. The machine tells nobody anything for now. On an error the disk is given back; where it is
+    /// `Damaged` no file has been removed.
+    ///
+    /// On a folder that is in order for a log, the host stands at the prefix of the log that was read.
+    pub fn open(
+        alloc: Global,
+        disk: D,
+        machine: M,
+        name: &LogName,
+        segment: u32,
+    ) -> Result<Host<D, M>, (D, OpenError)>
+        requires none { M.cells machine ≡ [] }
+        requires tells { TellsNothing M.decides }
+        requires built { StoresBuilt M.decides }
+        requires least { 2 ≤ segment }
+        requires most { segment ≤ 65536 }
+        ensures name { IfOk result (λ h. (h.parts.name ≡ name.now) × (h.size ≡ segment) × (h.stopped ≡ false)) }
+        ensures stands { IsTrue D.tells → (items : List Item) (least : ℕ) → IsInOrder M.decides (D.view disk) name.now items least → IfOk result (OpensAt M.decides D.view M.cells (D.view disk) items least) }
+        ensures any_moment { IsTrue D.tells → (items : List Item) (least : ℕ) → IsInOrder M.decides (D.view disk) name.now items least
+            → LeavesOnly (D.view disk) (D.view (disk_behind result)) (HasPrefix M.decides name.now items least) }
+        ensures greatest { IfOk result (λ h. IsTrue D.tells → IsGreatestListed (D.view disk) name.now h.parts.greatest) }
+
+        // A damaged file is named by its cause, and the files are as they were.
+        ensures damaged { (base generation at : ℕ) → IsErrOf (went result) (OpenError.Damaged base generation at)
+            → (at ≡ 0) × (IsTrue D.tells → IsFault (folder name.now (D.view disk).reading) (id_from base generation) × ((D.view (disk_behind result)).reading ≡ (D.view disk).reading)) }
+
+        // Whatever it answers of files that aren't right, they are as they were.
+        ensures unharmed { IsTrue D.tells → (id : FileId) → IsFault (folder name.now (D.view disk).reading) id
+            → ((D.view (disk_behind result)).reading ≡ (D.view disk).reading) × LeavesAt (D.view disk) (D.view (disk_behind result)) (MayHold (D.view disk)) }
+
+        ensures empty { IsTrue D.tells → IsEmptyWhereNone (D.view disk) name.now → IsEmptyWhereNone (D.view (disk_behind result)) name.now }
+        ensures others { IsTrue D.tells → KeepsNames (D.view disk) (D.view (disk_behind result)) name.now }
+        ensures cause { HasOpenCause (D.faults disk) (D.faults (disk_behind result)) (went result) }
+    {
+        let mut disk = disk;
+        let mut core = Core::new(alloc, machine);
+        match load(alloc, &mut disk, &mut core, name) {
+            Ok(parts) => Ok(Host {
+                disk,
+                parts,
+                core,
+                size: segment,
+                stopped: false,
+                frame: Vec::new(alloc),
+                places: Vec::new(alloc),
+            }),
+            Err(error) => {
+                core.end();
+                Err((disk, error))
+            }
+        }
+    }
+}

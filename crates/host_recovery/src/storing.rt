@@ -1,0 +1,243 @@
+// A host stores what is offered and who is due.
+ghost use Rattle.std.specs.Prelude.{◌≡◌, ◌<◌, ◌+◌, ◌⊎◌, ℕ, List, [], ◌∷◌, ◌++◌, false, true, None, IsTrue, IfOk, IfErr, OnOk};
+ghost use Rattle.host_types.specs.Limits.{index_limit, last_limit};
+ghost use Rattle.host_types.specs.Ranges.{EntryFits, IsInRange};
+ghost use Rattle.disk_model.specs.View.{LeavesOnly};
+ghost use Rattle.segment_files.specs.Parse.{is_built};
+ghost use Rattle.segment_files.specs.Contents.{frame_bytes};
+ghost use Rattle.segment_set.specs.Fits.{IsEmptyWhereNone, IsHeld, KeepsNames, StandsOrGains as FilesStandOrGain, last_of};
+ghost use Rattle.log_model.specs.Admission.{Admitted, Item, Offered, Expired};
+ghost use Rattle.host_types.specs.declared.entry.Body.TheVariants as body;
+ghost use Rattle.log_model.specs.Fitting.{ItemFits};
+ghost use Rattle.log_model.specs.Hosted.{hosted_admits, hosted_entry, hosted_expires, hosted_told};
+ghost use Rattle.log_model.specs.Layout.{with_entry};
+ghost use Rattle.log_model.specs.Replay.{replay_entry};
+ghost use Rattle.host_core.specs.Seen.{hosted};
+ghost use Rattle.host_recovery.specs.Seen.{Seen};
+ghost use Rattle.host_recovery.specs.Standing.{StandsAt, StandsOrExpires, StandsOrGains, layout_in, log_in};
+ghost use Rattle.host_recovery.specs.Answers.{AfterError, HasHostCause, IsAnswer, IsExpiry, OnAnswer, IsStoreError, OnExpiry, admits_file, admits_stored, refused_by};
+
+use crate::answers::{Answer, HostError, answer_to};
+use crate::host::Host;
+use disk_model::{Disk, DiskFault};
+use host_core::{DecideError, Decided};
+use host_types::{Body, Entry, Index, NoMemory, Offer, Refusal, Time};
+use machine::Machine;
+use segment_set::Parts;
+use std::alloc::Global;
+
+/// The greatest last index of a log, as long as a log is one file.
+const LAST_LIMIT: Index = 4294967295;
+
+impl From<NoMemory> for HostError {
+    ghost use Rattle.host_recovery.specs.declared.answers.HostError.TheVariants as error;
+
+    ghost from_gives = { λ _ e. e ≡ error.NoMemory };
+
+    fn from(_: NoMemory) -> Self {
+        HostError::NoMemory
+    }
+}
+
+impl From<DiskFault> for HostError {
+    ghost use Rattle.host_recovery.specs.Answers.{fault_of};
+
+    ghost from_gives = { λ fault e. e ≡ fault_of fault };
+
+    fn from(fault: DiskFault) -> Self {
+        match fault {
+            DiskFault::Failed => HostError::Disk,
+            DiskFault::NoMemory => HostError::NoMemory,
+        }
+    }
+}
+
+/// Why an entry finds no file, if so: a new one is needed, and no generation is left.
+fn no_file(parts: &Parts) -> Option<Refusal>
+    ensures { admits_file parts.now ≡ refused_by result }
+{
+    if parts.needs_file() && parts.next_generation().is_none() {
+        return Some(Refusal::GenEnd {
+            generation: parts.greatest,
+        });
+    }
+    None
+}
+
+/// The entry with which a session expires.
+fn end_of(time: Time, session: Index) -> Entry
+    ensures entry { result ≡ record { time = time; body = body.Close session true } }
+    ensures fits { ItemFits (Expired time session) }
+{
+    Entry {
+        time,
+        body: Body::Close {
+            session,
+            expired: true,
+        },
+    }
+}
+
+/// Makes the frame of an entry.
+fn put_frame(
+    frame: &mut Vec<u8>,
+    places: &mut Vec<u32>,
+    index: Index,
+    entry: Entry,
+) -> Result<Entry, NoMemory>
+    requires range { IsInRange index entry }
+    ensures same { IfOk result (λ back. back ≡ entry) }
+    ensures frame { OnOk result (frame.new.items ≡ frame_bytes ((index, entry) ∷ [])) }
+{
+    frame.clear();
+    let one = [(index, entry)];
+    segment_files::frame(&one, frame, places)?;
+    let [(_, entry)] = one;
+    Ok(entry)
+}
+
+impl<D: Disk, M: Machine> Host<D, M> {
+    /// Stores an entry behind the last one and applies it. All memory is taken before the first call of the disk. A crash at any
+    /// moment leaves the log without it or with it; from an Ok on it is there. After a fault of the disk the host is stopped.
+    fn store(&mut self, alloc: Global, entry: Entry) -> Result<(), HostError>
+        requires runs { self.old.stopped ≡ false }
+        requires room { (hosted M.cells self.old.core).last < last_limit }
+        requires file { admits_file self.old.parts ≡ Admitted }
+        requires fits { EntryFits entry }
+        requires range { IsInRange ((hosted M.cells self.old.core).last + 1) entry }
+        requires built { is_built entry.body ≡ true }
+        ensures runs { OnOk result (self.new.stopped ≡ false) }
+        ensures state { OnOk result (hosted M.cells self.new.core ≡ replay_entry (hosted_told M.decides) 0 (hosted M.cells self.old.core) ((hosted M.cells self.old.core).last + 1, entry)) }
+        ensures log { OnOk result (IsTrue D.tells → log_in (D.view self.new.disk) self.new.parts ≡ log_in (D.view self.old.disk) self.old.parts ++ entry ∷ []) }
+        ensures layout { OnOk result (IsTrue D.tells → layout_in (D.view self.new.disk) self.new.parts ≡ with_entry self.old.size (layout_in (D.view self.old.disk) self.old.parts)) }
+        ensures held { OnOk result (IsTrue D.tells → IsHeld (D.view self.old.disk) self.old.parts.name self.old.parts.tail → IsHeld (D.view self.new.disk) self.new.parts.name self.new.parts.tail) }
+        ensures any_moment { IsTrue D.tells → IsHeld (D.view self.old.disk) self.old.parts.name self.old.parts.tail
+            → LeavesOnly (D.view self.old.disk) (D.view self.new.disk) (FilesStandOrGain self.old.parts.name (log_in (D.view self.old.disk) self.old.parts) entry) }
+        ensures empty { IsTrue D.tells → IsHeld (D.view self.old.disk) self.old.parts.name self.old.parts.tail → IsEmptyWhereNone (D.view self.new.disk) self.old.parts.name }
+        ensures others { IsTrue D.tells → KeepsNames (D.view self.old.disk) (D.view self.new.disk) self.old.parts.name }
+        ensures error { IfErr result IsStoreError }
+        ensures after { IfErr result (AfterError M.cells self.old self.new) }
+        ensures name { self.new.parts.name ≡ self.old.parts.name }
+        ensures size { self.new.size ≡ self.old.size }
+        ensures cause { HasHostCause (D.faults self.old.disk) (D.faults self.new.disk) result }
+    {
+        let index = self.core.last() + 1;
+        let entry = put_frame(&mut self.frame, &mut self.places, index, entry)?;
+        let prepared = match self.core.reserve(alloc, index, &entry) {
+            Ok(prepared) => prepared,
+            Err(_) => {
+                drop(entry);
+                return Err(HostError::NoMemory);
+            }
+        };
+        match self
+            .parts
+            .append(alloc, &mut self.disk, &self.frame, self.size)
+        {
+            Ok(()) => {
+                self.core.apply(index, entry, prepared);
+                Ok(())
+            }
+            Err(fault) => {
+                drop(entry);
+                self.core.cancel(prepared);
+                self.stopped = true;
+                Err(HostError::from(fault))
+            }
+        }
+    }
+
+    /// Takes an offer: it is stored and answered, or it repeats a command whose reply is kept, or it is refused by its first cause.
+    ///
+    /// A refusal and a repeat change nothing, and call the disk not at all. Until it answers, a crash leaves the log without the
+    /// offer or with it; from an answer that it is stored on, each image has it.
+    pub fn offer(&mut self, alloc: Global, one: &Offer) -> Result<Answer, HostError>
+        ensures answer { IsAnswer self.old.stopped (admits_stored (hosted_admits M.decides (hosted M.cells self.old.core) one.now) self.old.parts)
+            ((hosted M.cells self.old.core).last + 1) (hosted_entry M.decides (hosted M.cells self.old.core) (Offered one.now)).body result }
+        ensures repeated { IfOk result (λ _. OnAnswer result (self.new ≡ self.old) (self.new.stopped ≡ false)) }
+        ensures after { IfErr result (AfterError M.cells self.old self.new) }
+        ensures stands { IsTrue D.tells → (items : List Item) → StandsAt M.decides D.view M.cells self.old items
+            → OnAnswer result (StandsAt M.decides D.view M.cells self.new items) (StandsAt M.decides D.view M.cells self.new (items ++ Offered one.now ∷ [])) }
+        ensures layout { IsTrue D.tells → OnAnswer result (Unit {0}) (layout_in (D.view self.new.disk) self.new.parts ≡ with_entry self.old.size (layout_in (D.view self.old.disk) self.old.parts)) }
+        ensures any_moment { IsTrue D.tells → (items : List Item) → StandsAt M.decides D.view M.cells self.old items
+            → LeavesOnly (D.view self.old.disk) (D.view self.new.disk) (StandsOrGains M.decides self.old.parts.name items (Offered one.now)) }
+        ensures empty { IsTrue D.tells → (items : List Item) → StandsAt M.decides D.view M.cells self.old items → IsEmptyWhereNone (D.view self.new.disk) self.old.parts.name }
+        ensures others { IsTrue D.tells → KeepsNames (D.view self.old.disk) (D.view self.new.disk) self.old.parts.name }
+        ensures name { self.new.parts.name ≡ self.old.parts.name }
+        ensures size { self.new.size ≡ self.old.size }
+        ensures cause { HasHostCause (D.faults self.old.disk) (D.faults self.new.disk) result }
+    {
+        if self.stopped {
+            return Err(HostError::Stopped);
+        }
+        let entry = match self.core.decide(alloc, one) {
+            Ok(Decided::Store(entry)) => entry,
+            Ok(Decided::Repeat(reply)) => return Ok(Answer::Repeat(reply)),
+            Err(DecideError::Refused(why)) => return Err(HostError::Refused(why)),
+            Err(DecideError::NoMemory) => return Err(HostError::NoMemory),
+        };
+        if let Some(why) = no_file(&self.parts) {
+            drop(entry);
+            return Err(HostError::Refused(why));
+        }
+        one.fits();
+        self.core.keeps();
+        let answer = match answer_to(self.core.last() + 1, &entry.body) {
+            Ok(answer) => answer,
+            Err(_) => {
+                drop(entry);
+                return Err(HostError::NoMemory);
+            }
+        };
+        match self.store(alloc, entry) {
+            Ok(()) => Ok(answer),
+            Err(error) => {
+                drop(answer);
+                Err(error)
+            }
+        }
+    }
+
+    /// Stores the end of the session that is due at this time, the one with the least id, and answers its index and the session.
+    /// Nothing is stored where nobody is due. It is refused where the time is below the log's, or where somebody is due and the log
+    /// or the generations of its files are at their end.
+    pub fn expire(&mut self, alloc: Global, time: Time) -> Result<Option<(Index, Index)>, HostError>
+        ensures answer { IsExpiry self.old.stopped (hosted_expires (hosted M.cells self.old.core) time) self.old.parts ((hosted M.cells self.old.core).last + 1) result }
+        ensures nobody { IfOk result (λ _. OnExpiry result (self.new ≡ self.old) (λ _. self.new.stopped ≡ false)) }
+        ensures after { IfErr result (AfterError M.cells self.old self.new) }
+        ensures stands { IsTrue D.tells → (items : List Item) → StandsAt M.decides D.view M.cells self.old items
+            → OnExpiry result (StandsAt M.decides D.view M.cells self.new items) (λ session. StandsAt M.decides D.view M.cells self.new (items ++ Expired time session ∷ [])) }
+        ensures layout { IsTrue D.tells → OnExpiry result (Unit {0}) (λ _. layout_in (D.view self.new.disk) self.new.parts ≡ with_entry self.old.size (layout_in (D.view self.old.disk) self.old.parts)) }
+        ensures any_moment { IsTrue D.tells → (items : List Item) → StandsAt M.decides D.view M.cells self.old items
+            → LeavesOnly (D.view self.old.disk) (D.view self.new.disk) (StandsOrExpires M.decides self.old.parts.name items time (hosted_expires (hosted M.cells self.old.core) time)) }
+        ensures empty { IsTrue D.tells → (items : List Item) → StandsAt M.decides D.view M.cells self.old items → IsEmptyWhereNone (D.view self.new.disk) self.old.parts.name }
+        ensures others { IsTrue D.tells → KeepsNames (D.view self.old.disk) (D.view self.new.disk) self.old.parts.name }
+        ensures name { self.new.parts.name ≡ self.old.parts.name }
+        ensures size { self.new.size ≡ self.old.size }
+        ensures cause { HasHostCause (D.faults self.old.disk) (D.faults self.new.disk) result }
+    {
+        if self.stopped {
+            return Err(HostError::Stopped);
+        }
+        if time < self.core.now() {
+            return Err(HostError::Refused(Refusal::Time {
+                now: self.core.now(),
+            }));
+        }
+        let Some(session) = self.core.sessions().due(time) else {
+            return Ok(None);
+        };
+        if self.core.last() >= LAST_LIMIT {
+            return Err(HostError::Refused(Refusal::LogEnd));
+        }
+        if let Some(why) = no_file(&self.parts) {
+            return Err(HostError::Refused(why));
+        }
+        self.core.keeps();
+        let index = self.core.last() + 1;
+        match self.store(alloc, end_of(time, session)) {
+            Ok(()) => Ok(Some((index, session))),
+            Err(error) => Err(error),
+        }
+    }
+}
