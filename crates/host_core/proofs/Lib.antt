@@ -3,4 +3,3 @@ pub mod Meeting
 pub mod Parts
 pub mod Standing
 pub mod Tables
-pub mod TestLaws

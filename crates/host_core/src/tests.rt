@@ -22,7 +22,9 @@ enum Outcome {
 /// The catalog of today tells nobody anything.
 fn catalog_tells_nothing()
     ensures { TellsNothing catalog_decision }
-{}
+{
+    resource_catalog::catalog_tells_nothing();
+}
 
 /// A core of the empty log over the catalog.
 fn core_of_nothing(alloc: Global) -> Core<Catalog>
@@ -176,5 +178,48 @@ fn a_log_is_replayed(rt: HostRuntime) -> Result<(), Fail> {
     core.end();
     assert!(rt; went == Ok(()));
     assert!(rt; seen == (3, 7, None, Some(1)));
+    Ok(())
+}
+
+/// Replays a tick at the last index that a log may have.
+fn replay_last<M: Machine>(core: &mut Core<M>, alloc: Global) -> Result<(), NoMemory>
+    requires { core.old.last ≡ 0 }
+{
+    let tick = Entry {
+        time: 5,
+        body: Body::Tick,
+    };
+    core.replay(alloc, 4294967295, tick, 0)
+}
+
+#[test]
+fn a_log_has_an_end(rt: HostRuntime) -> Result<(), Fail> {
+    let alloc = rt.alloc();
+    let early = Offer {
+        time: 4,
+        ask: Ask::Tick,
+    };
+    let late = Offer {
+        time: 5,
+        ask: Ask::Tick,
+    };
+    let unknown = Offer {
+        time: 5,
+        ask: Ask::Unregister { session: 1 },
+    };
+    let steps = [
+        (&early, Outcome::Refused(Refusal::Time { now: 5 })),
+        (
+            &unknown,
+            Outcome::Refused(Refusal::NoSession { session: 1 }),
+        ),
+        (&late, Outcome::Refused(Refusal::LogEnd)),
+    ];
+    let mut core = core_of_nothing(alloc);
+    let replayed = replay_last(&mut core, alloc);
+    let went = play(&mut core, alloc, &steps);
+    core.end();
+    assert!(rt; replayed == Ok(()));
+    assert!(rt; went == Ok(3));
     Ok(())
 }

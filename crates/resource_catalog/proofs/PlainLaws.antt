@@ -93,7 +93,7 @@ tells_nothing kinds.Value m c name effect i = refl
 tells_nothing kinds.Counter m c name effect i = refl
 tells_nothing _ m c name effect i = refl
 
-catalog_tells_nothing : (cells : Cells) (effect : Effect) (i : ℕ) → catalog_decision.tells cells effect i ≡ []
+pub catalog_tells_nothing : (cells : Cells) (effect : Effect) (i : ℕ) → catalog_decision.tells cells effect i ≡ []
 catalog_tells_nothing cells effect i = on (instance_of effect)
   where
     known : (m : ℕ) (name : List ℕ) (k : Option Kind) → tells_kind cells m name k effect i ≡ []
@@ -107,6 +107,9 @@ catalog_tells_nothing cells effect i = on (instance_of effect)
     on : (o : Option ℕ) → tells_on cells o effect i ≡ []
     on None = refl
     on (Some m) = found m (Rattle.std.specs.FinMap.Entries.find Rattle.std.specs.Ordering.nat_cmp m (instances cells))
+
+pub catalog_closes_silently : (cells : Cells) (session : ℕ) → catalog_decision.tells_close cells session ≡ []
+catalog_closes_silently cells session = told_none cells session (instances cells)
 
 row_told : (all : KindsArePlain) (cells : Cells) (s : State) (name : List ℕ) (n : Named_resource) (op : Op) (session i : ℕ) → ShowsName cells name n → told_outcome (row_outcome s.names n (row (call_of n.name n.instance session i) n.plain op)) ≡ []
 row_told all cells s name n op session i t = go (row (call_of n.name n.instance session i) n.plain op) refl
@@ -178,5 +181,5 @@ decides_as_model all = record {
   resolves = λ s cells name op session shows built of_built. resolves all s cells shows built name op session of_built;
   tells = λ s cells name op session effect reply names told shows built e. catalog_tells_nothing cells effect (s.last + 1) ∙ sym (told_nothing all s cells shows built name op session) ∙ ap told_outcome e;
   looks = λ s cells name op looking shows built. looks all s cells shows built name op looking;
-  tells_close = λ s cells session shows built. told_none cells session (instances cells) ∙ sym (closes all s cells shows built session s.names built shows.shown);
+  tells_close = λ s cells session shows built. catalog_closes_silently cells session ∙ sym (closes all s cells shows built session s.names built shows.shown);
 }

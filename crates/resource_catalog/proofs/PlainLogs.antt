@@ -256,6 +256,7 @@ module _ (plain : DecidesAsModel) where
               same_fold = same;
               same_entries = k.entries_same;
               same_admission = λ o h. ap (λ st. hosted_admits catalog_decision st o) same ∙ admits_same s c k.shown k.still_built o h;
+              same_entry = λ item h. ap (λ st. hosted_entry catalog_decision st item) same ∙ entry_same s c k.shown k.still_built item h;
               same_expiry = λ time. ap (λ st. hosted_expires st time) same;
               shows = shown_in (hosted_folded catalog_decision items) s c same k.shown;
               same_look = λ name op looking. plain.looks (folded items) (machine_cells (hosted_folded catalog_decision items).cells) name op looking (shown_in (hosted_folded catalog_decision items) s c same k.shown) k.still_built;

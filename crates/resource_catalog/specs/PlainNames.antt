@@ -15,13 +15,13 @@ use Rattle.host_types.specs.declared.entry.Reply.{Reply}
 use Rattle.log_model.specs.Admission.{Item, Offered, Expired, admits, expires}
 use Rattle.log_model.specs.Commands.{Decided, outcome, plain_look}
 use Rattle.log_model.specs.Deciding.{DecidesAsPlain, KeepsShowing}
-use Rattle.log_model.specs.Hosted.{machine_cells, hosted_admits, hosted_expires, hosted_folded, hosted_quiet, hosted_stored, is_hosted_log}
+use Rattle.log_model.specs.Hosted.{machine_cells, hosted_admits, hosted_entry, hosted_expires, hosted_folded, hosted_quiet, hosted_stored, is_hosted_log}
 use Rattle.log_model.specs.Plain.{Named_resource, State, kind_of}
 use Rattle.log_model.specs.PlainMachine.{choice_of}
 use Rattle.log_model.specs.Quiet.{quiet}
 use Rattle.log_model.specs.ReplayLaws.{as_folded}
 use Rattle.log_model.specs.Step.{folded, told_close}
-use Rattle.log_model.specs.Stored.{is_log, stored}
+use Rattle.log_model.specs.Stored.{entry_of, is_log, stored}
 use Rattle.log_model.specs.Telling.{EachName, ShowsState}
 use Rattle.resource_catalog.specs.Kinds.{is_built, decision_of}
 use Rattle.resource_catalog.specs.Catalog.{catalog_decision}
@@ -51,11 +51,12 @@ pub record DecidesAsModel : Type 0 where
   pub tells_close : (s : State) (cells : Cells) (session : ℕ) → ShowsState cells s → EachIsBuilt s.names → catalog_decision.tells_close cells session ≡ told_close s session
 
 -- A host over the catalog that took these items is as the plain state: its cells show the names and resources of that state, and it
--- has stored, and takes and shows next, what the plain state does.
+-- has stored, and takes, stores and shows next, what the plain state does.
 pub record HostsAsModel (items : List Item) : Type 0 where
   pub same_fold : hosted_folded catalog_decision items ≡ as_folded items
   pub same_entries : hosted_stored catalog_decision items ≡ stored items
   pub same_admission : (o : Offer) → AsksForBuilt o.ask → hosted_admits catalog_decision (hosted_folded catalog_decision items) o ≡ admits (folded items) o
+  pub same_entry : (item : Item) → IsItemOfBuilt item → hosted_entry catalog_decision (hosted_folded catalog_decision items) item ≡ entry_of (folded items) item
   pub same_expiry : (time : ℕ) → hosted_expires (hosted_folded catalog_decision items) time ≡ expires (folded items) time
   pub shows : ShowsState (machine_cells (hosted_folded catalog_decision items).cells) (folded items)
   pub same_look : (name : List ℕ) (op : Op) → IsTrue (is_looking op) → catalog_decision.look (machine_cells (hosted_folded catalog_decision items).cells) name op ≡ plain_look (folded items) name op

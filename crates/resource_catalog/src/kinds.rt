@@ -25,7 +25,7 @@ pub enum AnyResource {
 }
 
 /// A resource of this kind can be created.
-pub(crate) fn is_built(kind: Kind) -> bool
+pub fn is_built(kind: Kind) -> bool
     ensures { result ≡ is_built kind }
 {
     match kind {

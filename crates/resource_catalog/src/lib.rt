@@ -1,6 +1,10 @@
 //! Named resources of every kind as one machine.
 #![tactic(auto)]
 
+ghost use Rattle.std.specs.Prelude.{◌≡◌, ℕ, []};
+ghost use Rattle.host_types.specs.Cells.{Cells};
+ghost use Rattle.host_types.specs.declared.entry.Effect.{Effect};
+ghost use Rattle.resource_catalog.specs.Catalog.{catalog_decision};
 ghost use Rattle.resource_catalog.specs.PlainNames.{DecidesAsModel, LogsAreAsModel};
 
 mod catalog;
@@ -12,7 +16,7 @@ mod sorted;
 mod tests;
 
 pub use catalog::Catalog;
-pub use kinds::{AnyResource, kinds_are_plain};
+pub use kinds::{AnyResource, is_built, kinds_are_plain};
 
 /// Wherever its cells show a plain state, `Catalog` decides, tells and shows what the next entry of that state does, as long as
 /// each resource is of a kind that is built.
@@ -23,10 +27,16 @@ pub fn catalog_is_plain()
 }
 
 /// A host over `Catalog` takes the items that the plain state takes, and is as the plain state after each of them: its cells show
-/// the names and the resources, and its sessions, entries, answers and looks are the same. That is so while no item creates a
-/// resource of a kind that isn't built.
+/// the names and the resources, its sessions, entries, answers and looks are the same, and so is what it stores of the next item.
+/// That is so while no item creates a resource of a kind that isn't built.
 pub fn logs_of_catalogs_are_plain()
     ensures { LogsAreAsModel }
 {
     catalog_is_plain();
 }
+
+/// `Catalog` tells nobody anything, whatever it holds. That is so while no kind that is built tells anybody anything.
+pub fn catalog_tells_nothing()
+    ensures tells { (cells : Cells) (effect : Effect) (index : ℕ) → catalog_decision.tells cells effect index ≡ [] }
+    ensures tells_close { (cells : Cells) (session : ℕ) → catalog_decision.tells_close cells session ≡ [] }
+{}
