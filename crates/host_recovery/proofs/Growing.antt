@@ -34,8 +34,8 @@ use Rattle.log_model.proofs.HostedLogs.{grown}
 use Rattle.log_model.proofs.OfMachines.{admitted_in_range, logs_sound, step_is_replay}
 use Rattle.host_core.specs.Seen.{hosted}
 use Rattle.host_recovery.specs.Seen.{Seen}
-use Rattle.host_recovery.specs.Standing.{StandsAt, StoresBuilt, StandsFor, StandsOrExpires, StandsOrGains, log_in}
-use Rattle.host_recovery.specs.Answers.{OnAnswer, admits_file, admits_stored, answer_of}
+use Rattle.host_recovery.specs.Standing.{StandsAt, StoresBuilt, StandsFor, StandsOrExpires, StandsOrGains, StandsOrTakes, log_in}
+use Rattle.host_recovery.specs.Answers.{OnAnswer, admits_file, admits_stored, answer_of, expiry_stored, if_filed}
 use Rattle.host_recovery.specs.declared.answers.Answer.{Answer}
 use Rattle.host_recovery.proofs.Files.{stands_now}
 
@@ -88,10 +88,17 @@ pub stands_for : {D M : Type 0} (d : MachineDecision) (view : D → View) (cells
 stands_for d view cells h items at fits c may =
     subst (λ (l : List Entry). Stands (folder h.parts.name c) l) at.stored (stands_now (view h.disk) h.parts.name h.parts.tail h.parts.greatest fits at.held c may)
 
-pub stays_so : {D M : Type 0} (d : MachineDecision) (view : D → View) (cells : M → Cells) (h : Seen D M) (items : List Item) (item : Item) → IsDiskSound (view h.disk) → StandsAt d view cells h items
-    → Fits (view h.disk) h.parts.name h.parts.tail h.parts.greatest → LeavesOnly (view h.disk) (view h.disk) (StandsOrGains d h.parts.name items item)
-stays_so d view cells h items item sound at fits =
-    started (view h.disk) (StandsOrGains d h.parts.name items item) sound (λ c may. inl (stands_for d view cells h items at fits c may))
+module _ {D M : Type 0} (d : MachineDecision) (view : D → View) (cells : M → Cells) (h : Seen D M) (items : List Item) (item : Item) where
+  none_taken : (admission : Admission) (c : Image) → StandsFor d h.parts.name c items → StandsOrTakes d h.parts.name items item admission c
+  none_taken Admitted c stands = inl stands
+  none_taken (Repeats reply) c stands = stands
+  none_taken (Refused why) c stands = stands
+
+  -- a log that is left alone stays, whatever is offered
+  pub stays_untaken : (admission : Admission) → IsDiskSound (view h.disk) → StandsAt d view cells h items → Fits (view h.disk) h.parts.name h.parts.tail h.parts.greatest
+      → LeavesOnly (view h.disk) (view h.disk) (StandsOrTakes d h.parts.name items item admission)
+  stays_untaken admission sound at fits =
+      started (view h.disk) (StandsOrTakes d h.parts.name items item admission) sound (λ c may. none_taken admission c (stands_for d view cells h items at fits c may))
 
 -- ---- refusals
 
@@ -102,6 +109,10 @@ alone : (a : Admission) → first_refusal (a ∷ []) ≡ a
 alone Admitted = refl
 alone (Repeats reply) = refl
 alone (Refused why) = refl
+
+-- who expires by the state does so where the files take the entry
+pub expires_by : (e : Expiry) (parts : Parts) (session : ℕ) → e ≡ Expires session → admits_file parts ≡ Admitted → expiry_stored e parts ≡ Expires session
+expires_by e parts session is files = ap (λ (x : Expiry). expiry_stored x parts) is ∙ ap (λ (a : Admission). if_filed a session) files
 
 pub by_files : (a b : Admission) (parts : Parts) → a ≡ Admitted → admits_file parts ≡ b → admits_stored a parts ≡ b
 by_files a b parts is files = ap (λ (x : Admission). admits_stored x parts) is ∙ ap (λ (x : Admission). first_refusal (x ∷ [])) files ∙ alone b

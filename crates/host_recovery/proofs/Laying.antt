@@ -1,18 +1,22 @@
 -- How the files lie that a disk shows, where it fits what is remembered of them.
-use Rattle.std.proofs.Common.{◌≡◌, ◌⊎◌, inl, inr, ℕ, List, [], ◌∷◌, map, Option, Some, None, is_none, refl, sym, ap, subst, ◌∙◌, arith, Contains}
+use Rattle.std.proofs.Common.{◌≡◌, ◌≤◌, ◌⊎◌, inl, inr, ℕ, List, [], ◌∷◌, map, Option, Some, None, is_none, refl, sym, ap, subst, ◌∙◌, arith, Contains}
 use Rattle.disk_model.specs.declared.file_id.FileId.{FileId}
-use Rattle.disk_model.specs.Image.{place}
+use Rattle.disk_model.specs.Image.{Image, place}
 use Rattle.disk_model.specs.View.{View, IsListed}
 use Rattle.segment_files.specs.Parse.{Part, Closed, Whole, Damaged}
-use Rattle.segment_files.specs.Folder.{found, folder, IsChoice}
+use Rattle.segment_files.specs.Folder.{found, folder, IsChoice, IsFault}
 use Rattle.segment_set.specs.declared.parts.Tail.{Tail}
+use Rattle.segment_set.specs.declared.parts.Parts.{Parts}
 use Rattle.segment_set.specs.Fits.{Fits, parts_in}
+use Rattle.segment_set.proofs.Faultless.{no_fault}
+use Rattle.segment_set.specs.Opening.{IsGreatestListed}
 use Rattle.segment_set.proofs.Images.{nothing, only_one, here}
 use Rattle.segment_set.proofs.Loading.{bytes_of_whole}
 use Rattle.segment_set.proofs.Gaining.{whole_plain, list_at}
 use Rattle.log_model.specs.Layout.{Layout, PartLayout, alone, greatest_of, needs_file}
-use Rattle.host_recovery.specs.Lying.{IsGreatest, IsThere, LiesAlone}
-use Rattle.host_recovery.specs.Standing.{part_layout}
+use Rattle.host_recovery.specs.Lying.{IsGreatest, IsThere, Lies, LiesAlone}
+use Rattle.host_recovery.specs.Standing.{layout_in, part_layout}
+use Rattle.host_recovery.proofs.Openings.{one_choice}
 
 abbrev layout_of : View → List ℕ → Option Tail → ℕ → Layout
 layout_of v name tail greatest = record { parts = map part_layout (parts_in v.reading name tail); greatest = greatest }
@@ -99,3 +103,37 @@ is_laid_out v name tail greatest fits = record {
   };
   only = only_is v name tail greatest fits;
 }
+
+-- what was read lies so
+pub lies_so : (v w : View) (name : List ℕ) (parts : Parts) → parts.name ≡ name → IsChoice (folder name v.reading) (parts_in w.reading name parts.tail) → IsGreatestListed v name parts.greatest → Lies name v.reading (layout_in w parts)
+lies_so v w name parts named choice great = record {
+  parts = parts_in w.reading parts.name parts.tail;
+  choice = subst (λ (n : List ℕ). IsChoice (folder name v.reading) (parts_in w.reading n parts.tail)) (sym named) choice;
+  parts_are = refl;
+  greatest = record { above = great.above; taken = great.taken };
+}
+
+-- HOW FILES LIE IS ONE
+
+not_above : (name : List ℕ) (image : Image) (a b : ℕ) → IsGreatest image name a → IsGreatest image name b → a ≤ b
+not_above name image a b x y = elim x.taken [
+  | inl none ↦ omega (arith, none)
+  | inr taken ↦ omega (arith, y.above taken.0 taken.1, taken.2)
+]
+
+pub lie_alike : (name : List ℕ) (image : Image) (a b : Layout) → Lies name image a → Lies name image b → a ≡ b
+lie_alike name image a b x y =
+    let parts : a.parts ≡ b.parts = x.parts_are ∙ ap (map part_layout) (one_choice (folder name image) x.parts y.parts x.choice y.choice) ∙ sym y.parts_are in
+    let greatest : a.greatest ≡ b.greatest = omega (arith, not_above name image a.greatest b.greatest x.greatest y.greatest, not_above name image b.greatest a.greatest y.greatest x.greatest) in
+    λ i. record { parts = parts i; greatest = greatest i }
+
+-- where files fit a choice of them, none has a fault
+pub none_at_fault : (v w : View) (name : List ℕ) (tail : Option Tail) (greatest : ℕ) (id : FileId) → Fits w name tail greatest → IsChoice (folder name v.reading) (parts_in w.reading name tail) → IsFault (folder name v.reading) id → ⊥
+none_at_fault v w name tail greatest id fits choice fault = no_fault v name (parts_in w.reading name tail) id choice (based tail fits) fault
+  where
+    based : (tail : Option Tail) → Fits w name tail greatest → (p : Part) → Contains (parts_in w.reading name tail) p → p.id.base ≡ 1
+    based None fits p has = absurd (nothing p has)
+    based (Some tail) fits p has =
+        let t = fits.tail_is in
+        let one = subst (λ (ps : List Part). Contains ps p) (list_at w name tail t.part t.whole) has in
+        ap (λ (r : Part). r.id.base) (sym (only_one t.part p one)) ∙ ap (λ (i : FileId). i.base) (whole_plain w name tail.id t.part t.whole).id_is ∙ tail.base_is

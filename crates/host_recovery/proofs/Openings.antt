@@ -79,7 +79,7 @@ replays d items parts s lawful owner log are stored state =
     ∙ gives_hosted_fold d items (numbered (hosted_stored d items)) 0 0 lawful owner log.fits log.admitted (fresh (hosted_stored d items) (hosted_quiet (hosted_folded d items)))
 
 -- a folder has one list of parts
-one_choice : (files : Folder) (a b : List Part) → IsChoice files a → IsChoice files b → a ≡ b
+pub one_choice : (files : Folder) (a b : List Part) → IsChoice files a → IsChoice files b → a ≡ b
 one_choice files [] [] x y = refl
 one_choice files [] (q ∷ b) x y = absurd (nothing q (x.cover q.id q (y.stand q (here q b))))
 one_choice files (p ∷ a) [] x y = absurd (nothing p (y.cover p.id p (x.stand p (here p a))))

@@ -110,6 +110,16 @@ expiry_refusal (Expires session) parts = admits_file parts
 expiry_refusal Nobody parts = Admitted
 expiry_refusal (Not_now why) parts = Refused why
 
+abbrev pub if_filed : Admission → ℕ → Expiry
+if_filed (Refused why) session = Not_now why
+if_filed _ session = Expires session
+
+-- who expires by the files as well
+abbrev pub expiry_stored : Expiry → Parts → Expiry
+expiry_stored (Expires session) parts = if_filed (admits_file parts) session
+expiry_stored Nobody parts = Nobody
+expiry_stored (Not_now why) parts = Not_now why
+
 -- an expiry is refused by its cause, or a fault of what was due, or want of memory, which is free
 abbrev pub IsExpiry : Bool → Expiry → Parts → ℕ → Result (Option (ℕ × ℕ)) HostError → Type 0
 IsExpiry stopped expiry parts index (Ok None) = (stopped ≡ false) × (expiry ≡ Nobody)

@@ -12,7 +12,7 @@ use Rattle.segment_files.specs.Parse.{Part, is_built_effect}
 use Rattle.segment_files.specs.Folder.{folder, Stands}
 use Rattle.segment_set.specs.declared.parts.Parts.{Parts}
 use Rattle.segment_set.specs.Fits.{Fits, IsHeld, last_of, log_of, parts_in}
-use Rattle.log_model.specs.Admission.{Item, Expired, Expiry, Expires, Nobody, Not_now}
+use Rattle.log_model.specs.Admission.{Item, Admission, Admitted, Repeats, Refused, Expired, Expiry, Expires, Nobody, Not_now}
 use Rattle.log_model.specs.Fitting.{ItemsFit}
 use Rattle.log_model.specs.Hosted.{hosted_folded, hosted_stored, is_hosted_log}
 use Rattle.log_model.specs.Layout.{Layout, PartLayout}
@@ -31,6 +31,12 @@ StandsFor d name image items = Stands (folder name image) (hosted_stored d items
 -- an image stands for the log without the item or with it
 abbrev pub StandsOrGains : MachineDecision → List ℕ → List Item → Item → Image → Type 0
 StandsOrGains d name items item image = StandsFor d name image items ⊎ StandsFor d name image (items ++ item ∷ [])
+
+-- or, where the item is admitted, without it or with it
+abbrev pub StandsOrTakes : MachineDecision → List ℕ → List Item → Item → Admission → Image → Type 0
+StandsOrTakes d name items item Admitted image = StandsOrGains d name items item image
+StandsOrTakes d name items item (Repeats reply) image = StandsFor d name image items
+StandsOrTakes d name items item (Refused why) image = StandsFor d name image items
 
 -- or without the end of a session that expires, or with it
 abbrev pub StandsOrExpires : MachineDecision → List ℕ → List Item → ℕ → Expiry → Image → Type 0

@@ -1,5 +1,5 @@
 // A host is opened: its files are read, and the entries that they hold are replayed.
-ghost use Rattle.std.specs.Prelude.{◌≡◌, ◌≤◌, ◌+◌, ℕ, List, [], false, IsTrue, IfOk, OnOk, IsErrOf};
+ghost use Rattle.std.specs.Prelude.{◌≡◌, ◌≤◌, ◌+◌, ℕ, List, [], false, true, IsTrue, IfOk, OnOk, OnErr, IsErrOf};
 ghost use Rattle.disk_model.specs.declared.file_id.FileId.{FileId};
 ghost use Rattle.disk_model.specs.View.{LeavesAt, LeavesOnly, MayHold};
 ghost use Rattle.disk_model.specs.Calls.{Stays};
@@ -11,9 +11,11 @@ ghost use Rattle.segment_set.specs.Fits.{Fits, IsEmptyWhereNone, IsHeld, IsInOrd
 ghost use Rattle.segment_set.specs.Opening.{HasOpenCause, IsGreatestListed, id_from};
 ghost use Rattle.log_model.specs.Admission.{Item};
 ghost use Rattle.log_model.specs.Hosted.{hosted_nothing, hosted_told};
+ghost use Rattle.log_model.specs.Layout.{alone};
 ghost use Rattle.log_model.specs.Replay.{replay_from, replayed};
 ghost use Rattle.host_core.specs.Seen.{TellsNothing, hosted};
-ghost use Rattle.host_recovery.specs.Standing.{StoresBuilt};
+ghost use Rattle.host_recovery.specs.Standing.{StandsAt, StandsFor, StoresBuilt, layout_in};
+ghost use Rattle.host_recovery.specs.Lying.{Lies};
 ghost use Rattle.host_recovery.specs.Opening.{HasPrefix, IsInOrder, OpensAt, disk_behind, went};
 
 use crate::host::Host;
@@ -24,6 +26,7 @@ use machine::Machine;
 use segment_files::{FileFault, entries};
 use segment_set::{OpenError, Parts, Tail};
 use std::alloc::Global;
+use std::mem;
 
 /// Replays entries, each at the index behind the one before.
 fn replay_all<M: Machine>(
@@ -162,7 +165,8 @@ impl<D: Disk, M: Machine> Host<D, M> {
         ensures stands { IsTrue D.tells → (items : List Item) (least : ℕ) → IsInOrder M.decides (D.view disk) name.now items least → IfOk result (OpensAt M.decides D.view M.cells (D.view disk) items least) }
         ensures any_moment { IsTrue D.tells → (items : List Item) (least : ℕ) → IsInOrder M.decides (D.view disk) name.now items least
             → LeavesOnly (D.view disk) (D.view (disk_behind result)) (HasPrefix M.decides name.now items least) }
-        ensures greatest { IfOk result (λ h. IsTrue D.tells → IsGreatestListed (D.view disk) name.now h.parts.greatest) }
+        ensures faultless { OnOk result (IsTrue D.tells → (id : FileId) → IsFault (folder name.now (D.view disk).reading) id → ⊥) }
+        ensures lies { IfOk result (λ h. IsTrue D.tells → Lies name.now (D.view disk).reading (layout_in (D.view h.disk) h.parts)) }
 
         // A damaged file is named by its cause, and the files are as they were.
         ensures damaged { (base generation at : ℕ) → IsErrOf (went result) (OpenError.Damaged base generation at)
@@ -192,6 +196,58 @@ impl<D: Disk, M: Machine> Host<D, M> {
                 core.end();
                 Err((disk, error))
             }
+        }
+    }
+
+    /// Closes the host and opens it again, over a machine with no cell: what stands in memory is let go of, the files of the name are
+    /// read once more, and what no part of the log is is removed. On an error the host is stopped.
+    ///
+    /// A host that is stopped opens what its folder stands for, as `open` does. One that runs stands at the same log again, and so
+    /// does whatever a crash leaves on the way.
+    pub fn reopen(&mut self, alloc: Global, machine: M) -> Result<(), OpenError>
+        requires none { M.cells machine ≡ [] }
+        requires tells { TellsNothing M.decides }
+        ensures runs { OnOk result (self.new.stopped ≡ false) }
+        ensures stops { OnErr result (self.new.stopped ≡ true) }
+
+        // On a folder that is in order.
+        ensures opens { IsTrue D.tells → (items : List Item) (least : ℕ) → IsInOrder M.decides (D.view self.old.disk) self.old.parts.name items least
+            → OnOk result (OpensAt M.decides D.view M.cells (D.view self.old.disk) items least self.new) }
+        ensures leaves { IsTrue D.tells → (items : List Item) (least : ℕ) → IsInOrder M.decides (D.view self.old.disk) self.old.parts.name items least
+            → LeavesOnly (D.view self.old.disk) (D.view self.new.disk) (HasPrefix M.decides self.old.parts.name items least) }
+        ensures lies { OnOk result (IsTrue D.tells → Lies self.old.parts.name (D.view self.old.disk).reading (layout_in (D.view self.new.disk) self.new.parts)) }
+
+        // Where it ran.
+        ensures stands { IsTrue D.tells → (items : List Item) → StandsAt M.decides D.view M.cells self.old items → OnOk result (StandsAt M.decides D.view M.cells self.new items) }
+        ensures layout { IsTrue D.tells → (items : List Item) → StandsAt M.decides D.view M.cells self.old items
+            → OnOk result (layout_in (D.view self.new.disk) self.new.parts ≡ alone (layout_in (D.view self.old.disk) self.old.parts)) }
+        ensures any_moment { IsTrue D.tells → (items : List Item) → StandsAt M.decides D.view M.cells self.old items
+            → LeavesOnly (D.view self.old.disk) (D.view self.new.disk) (λ image. StandsFor M.decides self.old.parts.name image items) }
+
+        // A damaged file is named by its cause, and the files are as they were. Where it ran there is none.
+        ensures faultless { OnOk result (IsTrue D.tells → (id : FileId) → IsFault (folder self.old.parts.name (D.view self.old.disk).reading) id → ⊥) }
+        ensures damaged { (base generation at : ℕ) → IsErrOf result (OpenError.Damaged base generation at)
+            → (at ≡ 0) × (IsTrue D.tells → IsFault (folder self.old.parts.name (D.view self.old.disk).reading) (id_from base generation) × ((D.view self.new.disk).reading ≡ (D.view self.old.disk).reading)) }
+        ensures undamaged { (base generation at : ℕ) → IsErrOf result (OpenError.Damaged base generation at) → IsTrue D.tells → self.old.stopped ≡ false → ⊥ }
+        ensures unharmed { IsTrue D.tells → (id : FileId) → IsFault (folder self.old.parts.name (D.view self.old.disk).reading) id
+            → ((D.view self.new.disk).reading ≡ (D.view self.old.disk).reading) × LeavesAt (D.view self.old.disk) (D.view self.new.disk) (MayHold (D.view self.old.disk)) }
+
+        ensures empty { IsTrue D.tells → IsEmptyWhereNone (D.view self.old.disk) self.old.parts.name → IsEmptyWhereNone (D.view self.new.disk) self.old.parts.name }
+        ensures others { IsTrue D.tells → KeepsNames (D.view self.old.disk) (D.view self.new.disk) self.old.parts.name }
+        ensures name { self.new.parts.name ≡ self.old.parts.name }
+        ensures size { self.new.size ≡ self.old.size }
+        ensures cause { HasOpenCause (D.faults self.old.disk) (D.faults self.new.disk) result }
+    {
+        let name = self.parts.name;
+        self.stopped = true;
+        mem::replace(&mut self.core, Core::new(alloc, machine)).end();
+        match load(alloc, &mut self.disk, &mut self.core, &name) {
+            Ok(parts) => {
+                self.parts = parts;
+                self.stopped = false;
+                Ok(())
+            }
+            Err(error) => Err(error),
         }
     }
 }

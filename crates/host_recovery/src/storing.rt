@@ -14,8 +14,8 @@ ghost use Rattle.log_model.specs.Layout.{with_entry};
 ghost use Rattle.log_model.specs.Replay.{replay_entry};
 ghost use Rattle.host_core.specs.Seen.{hosted};
 ghost use Rattle.host_recovery.specs.Seen.{Seen};
-ghost use Rattle.host_recovery.specs.Standing.{StandsAt, StandsOrExpires, StandsOrGains, layout_in, log_in};
-ghost use Rattle.host_recovery.specs.Answers.{AfterError, HasHostCause, IsAnswer, IsExpiry, OnAnswer, IsStoreError, OnExpiry, admits_file, admits_stored, refused_by};
+ghost use Rattle.host_recovery.specs.Standing.{StandsAt, StandsOrExpires, StandsOrTakes, layout_in, log_in};
+ghost use Rattle.host_recovery.specs.Answers.{AfterError, HasHostCause, IsAnswer, IsExpiry, OnAnswer, IsStoreError, OnExpiry, admits_file, admits_stored, expiry_stored, refused_by};
 
 use crate::answers::{Answer, HostError, answer_to};
 use crate::host::Host;
@@ -156,11 +156,14 @@ impl<D: Disk, M: Machine> Host<D, M> {
             ((hosted M.cells self.old.core).last + 1) (hosted_entry M.decides (hosted M.cells self.old.core) (Offered one.now)).body result }
         ensures repeated { IfOk result (λ _. OnAnswer result (self.new ≡ self.old) (self.new.stopped ≡ false)) }
         ensures after { IfErr result (AfterError M.cells self.old self.new) }
+        ensures state { OnAnswer result (Unit {0}) (hosted M.cells self.new.core ≡ replay_entry (hosted_told M.decides) 0 (hosted M.cells self.old.core)
+            ((hosted M.cells self.old.core).last + 1, hosted_entry M.decides (hosted M.cells self.old.core) (Offered one.now))) }
         ensures stands { IsTrue D.tells → (items : List Item) → StandsAt M.decides D.view M.cells self.old items
             → OnAnswer result (StandsAt M.decides D.view M.cells self.new items) (StandsAt M.decides D.view M.cells self.new (items ++ Offered one.now ∷ [])) }
         ensures layout { IsTrue D.tells → OnAnswer result (Unit {0}) (layout_in (D.view self.new.disk) self.new.parts ≡ with_entry self.old.size (layout_in (D.view self.old.disk) self.old.parts)) }
         ensures any_moment { IsTrue D.tells → (items : List Item) → StandsAt M.decides D.view M.cells self.old items
-            → LeavesOnly (D.view self.old.disk) (D.view self.new.disk) (StandsOrGains M.decides self.old.parts.name items (Offered one.now)) }
+            → LeavesOnly (D.view self.old.disk) (D.view self.new.disk) (StandsOrTakes M.decides self.old.parts.name items (Offered one.now)
+            (admits_stored (hosted_admits M.decides (hosted M.cells self.old.core) one.now) self.old.parts)) }
         ensures empty { IsTrue D.tells → (items : List Item) → StandsAt M.decides D.view M.cells self.old items → IsEmptyWhereNone (D.view self.new.disk) self.old.parts.name }
         ensures others { IsTrue D.tells → KeepsNames (D.view self.old.disk) (D.view self.new.disk) self.old.parts.name }
         ensures name { self.new.parts.name ≡ self.old.parts.name }
@@ -205,11 +208,14 @@ impl<D: Disk, M: Machine> Host<D, M> {
         ensures answer { IsExpiry self.old.stopped (hosted_expires (hosted M.cells self.old.core) time) self.old.parts ((hosted M.cells self.old.core).last + 1) result }
         ensures nobody { IfOk result (λ _. OnExpiry result (self.new ≡ self.old) (λ _. self.new.stopped ≡ false)) }
         ensures after { IfErr result (AfterError M.cells self.old self.new) }
+        ensures state { OnExpiry result (Unit {0}) (λ session. hosted M.cells self.new.core ≡ replay_entry (hosted_told M.decides) 0 (hosted M.cells self.old.core)
+            ((hosted M.cells self.old.core).last + 1, record { time = time; body = body.Close session true })) }
         ensures stands { IsTrue D.tells → (items : List Item) → StandsAt M.decides D.view M.cells self.old items
             → OnExpiry result (StandsAt M.decides D.view M.cells self.new items) (λ session. StandsAt M.decides D.view M.cells self.new (items ++ Expired time session ∷ [])) }
         ensures layout { IsTrue D.tells → OnExpiry result (Unit {0}) (λ _. layout_in (D.view self.new.disk) self.new.parts ≡ with_entry self.old.size (layout_in (D.view self.old.disk) self.old.parts)) }
         ensures any_moment { IsTrue D.tells → (items : List Item) → StandsAt M.decides D.view M.cells self.old items
-            → LeavesOnly (D.view self.old.disk) (D.view self.new.disk) (StandsOrExpires M.decides self.old.parts.name items time (hosted_expires (hosted M.cells self.old.core) time)) }
+            → LeavesOnly (D.view self.old.disk) (D.view self.new.disk) (StandsOrExpires M.decides self.old.parts.name items time
+            (expiry_stored (hosted_expires (hosted M.cells self.old.core) time) self.old.parts)) }
         ensures empty { IsTrue D.tells → (items : List Item) → StandsAt M.decides D.view M.cells self.old items → IsEmptyWhereNone (D.view self.new.disk) self.old.parts.name }
         ensures others { IsTrue D.tells → KeepsNames (D.view self.old.disk) (D.view self.new.disk) self.old.parts.name }
         ensures name { self.new.parts.name ≡ self.old.parts.name }

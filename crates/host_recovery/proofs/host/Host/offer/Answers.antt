@@ -1,24 +1,26 @@
 use Rattle.std.proofs.Common.{◌≡◌, ◌+◌, false, IsTrue, List, Ok, ap, sym, subst, ◌∙◌}
 use Rattle.host_types.specs.Ranges.{IsInRange}
+use Rattle.host_types.specs.declared.entry.Entry.{Entry}
 use Rattle.disk_model.specs.View.{LeavesOnly}
 use Rattle.segment_set.specs.Fits.{IsEmptyWhereNone}
-use Rattle.log_model.specs.Admission.{Item, Offered, Admitted, Refused}
-use Rattle.log_model.specs.Hosted.{hosted_admits, hosted_entry}
+use Rattle.log_model.specs.Admission.{Admission, Item, Offered, Admitted, Refused}
+use Rattle.log_model.specs.Hosted.{hosted_admits, hosted_entry, hosted_told}
+use Rattle.log_model.specs.Replay.{replay_entry}
 use Rattle.host_core.specs.declared.deciding.Decided.{Decided}
 use Rattle.host_core.specs.declared.deciding.DecideError.{DecideError}
 use Rattle.host_core.specs.Answers.{Decides_as, IsWhy}
 use Rattle.host_core.specs.Seen.{hosted}
 use Rattle.host_recovery.specs.Seen.{Seen}
-use Rattle.host_recovery.specs.Standing.{StandsAt, StandsOrGains}
+use Rattle.host_recovery.specs.Standing.{StandsAt, StandsOrTakes}
 use Rattle.host_recovery.specs.Answers.{admits_stored}
 use Rattle.host_recovery.proofs.Stores.{stays_empty}
-use Rattle.host_recovery.proofs.Growing.{answered, by_files, by_state, item_in_range, item_is_built, leaves_more, offer_admitted, stands_more, stays_so}
+use Rattle.host_recovery.proofs.Growing.{answered, by_files, by_state, item_in_range, item_is_built, leaves_more, offer_admitted, stands_more, stays_untaken}
 use Rattle.host_recovery.proofs.host.Host.offer.Goals as goal
 
 pub returns-in-Ok-Repeat-clause-any_moment : goal.returns-in-Ok-Repeat-clause-any_moment
 returns-in-Ok-Repeat-clause-any_moment g c =
-    subst (λ (h : Seen g.row.D.Denot g.row.M.Denot). IsTrue g.D.Disk.tells → (items : List Item) → StandsAt g.M.Machine.decides g.D.Disk.view g.M.Machine.cells h items → LeavesOnly (g.D.Disk.view h.disk) (g.D.Disk.view h.disk) (StandsOrGains g.M.Machine.decides h.parts.name items (Offered c.args.one.now))) c.self.view_is
-    (λ t items at. stays_so g.M.Machine.decides g.D.Disk.view g.M.Machine.cells (record { disk = c.self.inside.disk; parts = c.self.inside.parts; core = c.self.inside.core; size = c.self.inside.size; stopped = c.self.inside.stopped }) items (Offered c.args.one.now) (g.met.D.Disk.sound c.self.inside.disk t) at (c.self.invariant.fits c.if-self.false t))
+    subst (λ (h : Seen g.row.D.Denot g.row.M.Denot). IsTrue g.D.Disk.tells → (items : List Item) → StandsAt g.M.Machine.decides g.D.Disk.view g.M.Machine.cells h items → LeavesOnly (g.D.Disk.view h.disk) (g.D.Disk.view h.disk) (StandsOrTakes g.M.Machine.decides h.parts.name items (Offered c.args.one.now) (admits_stored (hosted_admits g.M.Machine.decides (hosted g.M.Machine.cells h.core) c.args.one.now) h.parts))) c.self.view_is
+    (λ t items at. stays_untaken g.M.Machine.decides g.D.Disk.view g.M.Machine.cells (record { disk = c.self.inside.disk; parts = c.self.inside.parts; core = c.self.inside.core; size = c.self.inside.size; stopped = c.self.inside.stopped }) items (Offered c.args.one.now) (admits_stored (hosted_admits g.M.Machine.decides (hosted g.M.Machine.cells c.self.inside.core) c.args.one.now) c.self.inside.parts) (g.met.D.Disk.sound c.self.inside.disk t) at (c.self.invariant.fits c.if-self.false t))
 
 pub returns-in-Ok-Repeat-clause-empty : goal.returns-in-Ok-Repeat-clause-empty
 returns-in-Ok-Repeat-clause-empty g c =
@@ -27,8 +29,8 @@ returns-in-Ok-Repeat-clause-empty g c =
 
 pub returns-in-Err-Refused-clause-any_moment : goal.returns-in-Err-Refused-clause-any_moment
 returns-in-Err-Refused-clause-any_moment g c =
-    subst (λ (h : Seen g.row.D.Denot g.row.M.Denot). IsTrue g.D.Disk.tells → (items : List Item) → StandsAt g.M.Machine.decides g.D.Disk.view g.M.Machine.cells h items → LeavesOnly (g.D.Disk.view h.disk) (g.D.Disk.view h.disk) (StandsOrGains g.M.Machine.decides h.parts.name items (Offered c.args.one.now))) c.self.view_is
-    (λ t items at. stays_so g.M.Machine.decides g.D.Disk.view g.M.Machine.cells (record { disk = c.self.inside.disk; parts = c.self.inside.parts; core = c.self.inside.core; size = c.self.inside.size; stopped = c.self.inside.stopped }) items (Offered c.args.one.now) (g.met.D.Disk.sound c.self.inside.disk t) at (c.self.invariant.fits c.if-self.false t))
+    subst (λ (h : Seen g.row.D.Denot g.row.M.Denot). IsTrue g.D.Disk.tells → (items : List Item) → StandsAt g.M.Machine.decides g.D.Disk.view g.M.Machine.cells h items → LeavesOnly (g.D.Disk.view h.disk) (g.D.Disk.view h.disk) (StandsOrTakes g.M.Machine.decides h.parts.name items (Offered c.args.one.now) (admits_stored (hosted_admits g.M.Machine.decides (hosted g.M.Machine.cells h.core) c.args.one.now) h.parts))) c.self.view_is
+    (λ t items at. stays_untaken g.M.Machine.decides g.D.Disk.view g.M.Machine.cells (record { disk = c.self.inside.disk; parts = c.self.inside.parts; core = c.self.inside.core; size = c.self.inside.size; stopped = c.self.inside.stopped }) items (Offered c.args.one.now) (admits_stored (hosted_admits g.M.Machine.decides (hosted g.M.Machine.cells c.self.inside.core) c.args.one.now) c.self.inside.parts) (g.met.D.Disk.sound c.self.inside.disk t) at (c.self.invariant.fits c.if-self.false t))
 
 pub returns-in-Err-Refused-clause-empty : goal.returns-in-Err-Refused-clause-empty
 returns-in-Err-Refused-clause-empty g c =
@@ -37,8 +39,8 @@ returns-in-Err-Refused-clause-empty g c =
 
 pub returns-in-Err-NoMemory-clause-any_moment : goal.returns-in-Err-NoMemory-clause-any_moment
 returns-in-Err-NoMemory-clause-any_moment g c =
-    subst (λ (h : Seen g.row.D.Denot g.row.M.Denot). IsTrue g.D.Disk.tells → (items : List Item) → StandsAt g.M.Machine.decides g.D.Disk.view g.M.Machine.cells h items → LeavesOnly (g.D.Disk.view h.disk) (g.D.Disk.view h.disk) (StandsOrGains g.M.Machine.decides h.parts.name items (Offered c.args.one.now))) c.self.view_is
-    (λ t items at. stays_so g.M.Machine.decides g.D.Disk.view g.M.Machine.cells (record { disk = c.self.inside.disk; parts = c.self.inside.parts; core = c.self.inside.core; size = c.self.inside.size; stopped = c.self.inside.stopped }) items (Offered c.args.one.now) (g.met.D.Disk.sound c.self.inside.disk t) at (c.self.invariant.fits c.if-self.false t))
+    subst (λ (h : Seen g.row.D.Denot g.row.M.Denot). IsTrue g.D.Disk.tells → (items : List Item) → StandsAt g.M.Machine.decides g.D.Disk.view g.M.Machine.cells h items → LeavesOnly (g.D.Disk.view h.disk) (g.D.Disk.view h.disk) (StandsOrTakes g.M.Machine.decides h.parts.name items (Offered c.args.one.now) (admits_stored (hosted_admits g.M.Machine.decides (hosted g.M.Machine.cells h.core) c.args.one.now) h.parts))) c.self.view_is
+    (λ t items at. stays_untaken g.M.Machine.decides g.D.Disk.view g.M.Machine.cells (record { disk = c.self.inside.disk; parts = c.self.inside.parts; core = c.self.inside.core; size = c.self.inside.size; stopped = c.self.inside.stopped }) items (Offered c.args.one.now) (admits_stored (hosted_admits g.M.Machine.decides (hosted g.M.Machine.cells c.self.inside.core) c.args.one.now) c.self.inside.parts) (g.met.D.Disk.sound c.self.inside.disk t) at (c.self.invariant.fits c.if-self.false t))
 
 pub returns-in-Err-NoMemory-clause-empty : goal.returns-in-Err-NoMemory-clause-empty
 returns-in-Err-NoMemory-clause-empty g c =
@@ -47,8 +49,8 @@ returns-in-Err-NoMemory-clause-empty g c =
 
 pub returns-in-Some-clause-any_moment : goal.returns-in-Some-clause-any_moment
 returns-in-Some-clause-any_moment g c =
-    subst (λ (h : Seen g.row.D.Denot g.row.M.Denot). IsTrue g.D.Disk.tells → (items : List Item) → StandsAt g.M.Machine.decides g.D.Disk.view g.M.Machine.cells h items → LeavesOnly (g.D.Disk.view h.disk) (g.D.Disk.view h.disk) (StandsOrGains g.M.Machine.decides h.parts.name items (Offered c.args.one.now))) c.self.view_is
-    (λ t items at. stays_so g.M.Machine.decides g.D.Disk.view g.M.Machine.cells (record { disk = c.self.inside.disk; parts = c.self.inside.parts; core = c.self.inside.core; size = c.self.inside.size; stopped = c.self.inside.stopped }) items (Offered c.args.one.now) (g.met.D.Disk.sound c.self.inside.disk t) at (c.self.invariant.fits c.if-self.false t))
+    subst (λ (h : Seen g.row.D.Denot g.row.M.Denot). IsTrue g.D.Disk.tells → (items : List Item) → StandsAt g.M.Machine.decides g.D.Disk.view g.M.Machine.cells h items → LeavesOnly (g.D.Disk.view h.disk) (g.D.Disk.view h.disk) (StandsOrTakes g.M.Machine.decides h.parts.name items (Offered c.args.one.now) (admits_stored (hosted_admits g.M.Machine.decides (hosted g.M.Machine.cells h.core) c.args.one.now) h.parts))) c.self.view_is
+    (λ t items at. stays_untaken g.M.Machine.decides g.D.Disk.view g.M.Machine.cells (record { disk = c.self.inside.disk; parts = c.self.inside.parts; core = c.self.inside.core; size = c.self.inside.size; stopped = c.self.inside.stopped }) items (Offered c.args.one.now) (admits_stored (hosted_admits g.M.Machine.decides (hosted g.M.Machine.cells c.self.inside.core) c.args.one.now) c.self.inside.parts) (g.met.D.Disk.sound c.self.inside.disk t) at (c.self.invariant.fits c.if-self.false t))
 
 pub returns-in-Some-clause-empty : goal.returns-in-Some-clause-empty
 returns-in-Some-clause-empty g c =
@@ -57,8 +59,8 @@ returns-in-Some-clause-empty g c =
 
 pub returns-in-Err-clause-any_moment : goal.returns-in-Err-clause-any_moment
 returns-in-Err-clause-any_moment g c =
-    subst (λ (h : Seen g.row.D.Denot g.row.M.Denot). IsTrue g.D.Disk.tells → (items : List Item) → StandsAt g.M.Machine.decides g.D.Disk.view g.M.Machine.cells h items → LeavesOnly (g.D.Disk.view h.disk) (g.D.Disk.view h.disk) (StandsOrGains g.M.Machine.decides h.parts.name items (Offered c.args.one.now))) c.self.view_is
-    (λ t items at. stays_so g.M.Machine.decides g.D.Disk.view g.M.Machine.cells (record { disk = c.self.inside.disk; parts = c.self.inside.parts; core = c.self.inside.core; size = c.self.inside.size; stopped = c.self.inside.stopped }) items (Offered c.args.one.now) (g.met.D.Disk.sound c.self.inside.disk t) at (c.self.invariant.fits c.if-self.false t))
+    subst (λ (h : Seen g.row.D.Denot g.row.M.Denot). IsTrue g.D.Disk.tells → (items : List Item) → StandsAt g.M.Machine.decides g.D.Disk.view g.M.Machine.cells h items → LeavesOnly (g.D.Disk.view h.disk) (g.D.Disk.view h.disk) (StandsOrTakes g.M.Machine.decides h.parts.name items (Offered c.args.one.now) (admits_stored (hosted_admits g.M.Machine.decides (hosted g.M.Machine.cells h.core) c.args.one.now) h.parts))) c.self.view_is
+    (λ t items at. stays_untaken g.M.Machine.decides g.D.Disk.view g.M.Machine.cells (record { disk = c.self.inside.disk; parts = c.self.inside.parts; core = c.self.inside.core; size = c.self.inside.size; stopped = c.self.inside.stopped }) items (Offered c.args.one.now) (admits_stored (hosted_admits g.M.Machine.decides (hosted g.M.Machine.cells c.self.inside.core) c.args.one.now) c.self.inside.parts) (g.met.D.Disk.sound c.self.inside.disk t) at (c.self.invariant.fits c.if-self.false t))
 
 pub returns-in-Err-clause-empty : goal.returns-in-Err-clause-empty
 returns-in-Err-clause-empty g c =
@@ -105,9 +107,22 @@ returns-in-Ok-store-clause-stands g c = λ t items at.
 pub returns-in-Ok-store-clause-any_moment : goal.returns-in-Ok-store-clause-any_moment
 returns-in-Ok-store-clause-any_moment g c = λ t items at.
     let decided = (subst (λ (h : Seen g.row.D.Denot g.row.M.Denot). (hosted_admits g.M.Machine.decides (hosted g.M.Machine.cells h.core) c.args.one.now ≡ Admitted) × (c.in-Ok-Store.entry ≡ hosted_entry g.M.Machine.decides (hosted g.M.Machine.cells h.core) (Offered c.args.one.now))) c.self.view_is (subst (λ (x : Decided). Decides_as (hosted_admits g.M.Machine.decides (hosted g.M.Machine.cells c.self.inside.core) c.args.one.now) (hosted_entry g.M.Machine.decides (hosted g.M.Machine.cells c.self.inside.core) (Offered c.args.one.now)) (Ok x)) c.in-Ok-Store.field-0-is c.in-Ok-Store.ensures.decided)) in
-    leaves_more g.M.Machine.decides g.D.Disk.view g.M.Machine.cells c.args.self.now items (Offered c.args.one.now) c.in-Ok-Store.entry (g.D.Disk.view c.store.new.self.disk) at decided.1 (c.store.ensures.any_moment t at.held)
+    let stored = subst (λ (h : Seen g.row.D.Denot g.row.M.Denot). admits_stored (hosted_admits g.M.Machine.decides (hosted g.M.Machine.cells h.core) c.args.one.now) h.parts ≡ Admitted) c.self.view_is
+    (by_files (hosted_admits g.M.Machine.decides (hosted g.M.Machine.cells c.self.inside.core) c.args.one.now) Admitted c.self.inside.parts (sym (ap (λ (h : Seen g.row.D.Denot g.row.M.Denot). hosted_admits g.M.Machine.decides (hosted g.M.Machine.cells h.core) c.args.one.now) (sym c.self.view_is)) ∙ decided.0) c.in_default.ensures) in
+    subst (λ (a : Admission). LeavesOnly (g.D.Disk.view c.args.self.now.disk) (g.D.Disk.view c.store.new.self.disk) (StandsOrTakes g.M.Machine.decides c.args.self.now.parts.name items (Offered c.args.one.now) a)) (sym stored)
+    (leaves_more g.M.Machine.decides g.D.Disk.view g.M.Machine.cells c.args.self.now items (Offered c.args.one.now) c.in-Ok-Store.entry (g.D.Disk.view c.store.new.self.disk) at decided.1 (c.store.ensures.any_moment t at.held))
 
 pub returns-in-Err-store-clause-any_moment : goal.returns-in-Err-store-clause-any_moment
 returns-in-Err-store-clause-any_moment g c = λ t items at.
     let decided = (subst (λ (h : Seen g.row.D.Denot g.row.M.Denot). (hosted_admits g.M.Machine.decides (hosted g.M.Machine.cells h.core) c.args.one.now ≡ Admitted) × (c.in-Ok-Store.entry ≡ hosted_entry g.M.Machine.decides (hosted g.M.Machine.cells h.core) (Offered c.args.one.now))) c.self.view_is (subst (λ (x : Decided). Decides_as (hosted_admits g.M.Machine.decides (hosted g.M.Machine.cells c.self.inside.core) c.args.one.now) (hosted_entry g.M.Machine.decides (hosted g.M.Machine.cells c.self.inside.core) (Offered c.args.one.now)) (Ok x)) c.in-Ok-Store.field-0-is c.in-Ok-Store.ensures.decided)) in
-    leaves_more g.M.Machine.decides g.D.Disk.view g.M.Machine.cells c.args.self.now items (Offered c.args.one.now) c.in-Ok-Store.entry (g.D.Disk.view c.store.new.self.disk) at decided.1 (c.store.ensures.any_moment t at.held)
+    let stored = subst (λ (h : Seen g.row.D.Denot g.row.M.Denot). admits_stored (hosted_admits g.M.Machine.decides (hosted g.M.Machine.cells h.core) c.args.one.now) h.parts ≡ Admitted) c.self.view_is
+    (by_files (hosted_admits g.M.Machine.decides (hosted g.M.Machine.cells c.self.inside.core) c.args.one.now) Admitted c.self.inside.parts (sym (ap (λ (h : Seen g.row.D.Denot g.row.M.Denot). hosted_admits g.M.Machine.decides (hosted g.M.Machine.cells h.core) c.args.one.now) (sym c.self.view_is)) ∙ decided.0) c.in_default.ensures) in
+    subst (λ (a : Admission). LeavesOnly (g.D.Disk.view c.args.self.now.disk) (g.D.Disk.view c.store.new.self.disk) (StandsOrTakes g.M.Machine.decides c.args.self.now.parts.name items (Offered c.args.one.now) a)) (sym stored)
+    (leaves_more g.M.Machine.decides g.D.Disk.view g.M.Machine.cells c.args.self.now items (Offered c.args.one.now) c.in-Ok-Store.entry (g.D.Disk.view c.store.new.self.disk) at decided.1 (c.store.ensures.any_moment t at.held))
+
+pub returns-in-Ok-store-clause-state : goal.returns-in-Ok-store-clause-state
+returns-in-Ok-store-clause-state g c =
+    let decided = (subst (λ (h : Seen g.row.D.Denot g.row.M.Denot). (hosted_admits g.M.Machine.decides (hosted g.M.Machine.cells h.core) c.args.one.now ≡ Admitted) × (c.in-Ok-Store.entry ≡ hosted_entry g.M.Machine.decides (hosted g.M.Machine.cells h.core) (Offered c.args.one.now))) c.self.view_is (subst (λ (x : Decided). Decides_as (hosted_admits g.M.Machine.decides (hosted g.M.Machine.cells c.self.inside.core) c.args.one.now) (hosted_entry g.M.Machine.decides (hosted g.M.Machine.cells c.self.inside.core) (Offered c.args.one.now)) (Ok x)) c.in-Ok-Store.field-0-is c.in-Ok-Store.ensures.decided)) in
+    let old = hosted g.M.Machine.cells c.args.self.now.core in
+    answered (c.last.result + 1) c.in-Ok-Store.entry.body c.in-Ok.answer _ _ c.in-Ok.ensures
+    (c.in-Ok-store.ensures.state ∙ ap (λ (e : Entry). replay_entry (hosted_told g.M.Machine.decides) 0 old (old.last + 1, e)) decided.1)

@@ -7,6 +7,7 @@ use Rattle.log_model.specs.Hosted.{hosted_stored, hosted_told}
 use Rattle.log_model.specs.Replay.{replayed}
 use Rattle.host_core.specs.Seen.{hosted}
 use Rattle.host_recovery.specs.Opening.{HasPrefix, IsInOrder}
+use Rattle.host_recovery.proofs.Laying.{lies_so, none_at_fault}
 use Rattle.host_recovery.proofs.Openings.{entries_prefix, items_prefix, opens_at}
 use Rattle.host_recovery.proofs.host.Host.open.Goals as goal
 
@@ -39,3 +40,11 @@ pub returns-in-Err-clause-damaged : goal.returns-in-Err-clause-damaged
 returns-in-Err-clause-damaged g c = λ base generation at err.
     let e : c.in-Err.error ≡ Is_damaged base generation at = cc err in
     c.load.ensures.damaged base generation at (c.in-Err.is ∙ ap Err e)
+
+pub returns-in-Ok-clause-lies : goal.returns-in-Ok-clause-lies
+returns-in-Ok-clause-lies g c = λ t.
+    lies_so (g.D.Disk.view c.args.disk) (g.D.Disk.view c.load.new.disk) c.args.name.now c.in-Ok.parts c.in-Ok.ensures.name (c.in-Ok.ensures.choice t) (c.in-Ok.ensures.greatest t)
+
+pub returns-in-Ok-clause-faultless : goal.returns-in-Ok-clause-faultless
+returns-in-Ok-clause-faultless g c = λ t id fault.
+    none_at_fault (g.D.Disk.view c.args.disk) (g.D.Disk.view c.load.new.disk) c.args.name.now c.in-Ok.parts.tail c.in-Ok.parts.greatest id (c.in-Ok.ensures.fits t) (c.in-Ok.ensures.choice t) fault

@@ -1,0 +1,84 @@
+-- A host that is opened again stands at the log that it stood at.
+use Rattle.std.proofs.Common.{◌≡◌, ℕ, false, List, length, Option, sym, subst, arith}
+use Rattle.std.proofs.lemmas.List.{take_all}
+use Rattle.host_types.specs.Cells.{Cells}
+use Rattle.host_types.specs.Decision.{MachineDecision, MachineIsLawful, MachineHasOneOwner}
+use Rattle.disk_model.specs.declared.file_id.FileId.{FileId}
+use Rattle.disk_model.specs.Image.{Image}
+use Rattle.disk_model.specs.View.{View, LeavesOnly, IsSound}
+use Rattle.disk_model.proofs.Moments.{weaker}
+use Rattle.segment_files.specs.Folder.{folder, entries_of, IsChoice, IsFault, StandsForPrefix}
+use Rattle.segment_set.specs.declared.parts.Tail.{Tail}
+use Rattle.segment_set.specs.declared.parts.Parts.{Parts}
+use Rattle.segment_set.specs.Fits.{Fits, IsHeld, IsInOrder as FilesAreInOrder, parts_in}
+use Rattle.segment_set.specs.Opening.{IsGreatestListed}
+use Rattle.log_model.specs.Admission.{Item}
+use Rattle.log_model.specs.Hosted.{hosted_stored, hosted_told}
+use Rattle.log_model.specs.Layout.{alone}
+use Rattle.log_model.specs.Replay.{replayed}
+use Rattle.host_core.specs.Seen.{hosted}
+use Rattle.host_recovery.specs.Seen.{Seen}
+use Rattle.host_recovery.specs.Opening.{HasPrefix, IsInOrder}
+use Rattle.host_recovery.specs.Standing.{StandsAt, StandsFor, layout_in}
+use Rattle.host_recovery.proofs.Growing.{stands_for}
+use Rattle.host_recovery.proofs.Laying.{choice_is, is_laid_out, lie_alike, lies_so, none_at_fault}
+use Rattle.host_recovery.proofs.Openings.{entries_prefix, items_prefix, opens_at}
+use Rattle.host_recovery.proofs.Stores.{stays_empty}
+
+-- what stands for all items at least stands for them
+whole_prefix : (d : MachineDecision) (name : List ℕ) (items : List Item) (image : Image) → HasPrefix d name items (length items) image → StandsFor d name image items
+whole_prefix d name items image has = subst (StandsFor d name image) (take_all has.count items has.enough) has.stands
+
+module _ {D M : Type 0} (d : MachineDecision) (view : D → View) (cells : M → Cells) (old : Seen D M) (items : List Item) (at : StandsAt d view cells old items)
+    (fits : Fits (view old.disk) old.parts.name old.parts.tail old.parts.greatest) where
+  -- its folder is in order for all of the log
+  stays_in_order : IsInOrder d (view old.disk) old.parts.name items (length items)
+  stays_in_order = record {
+    log = at.log;
+    each = λ image may. record {
+      count = length items;
+      enough = omega arith;
+      within = omega arith;
+      stands = subst (StandsFor d old.parts.name image) (sym (take_all (length items) items (omega arith))) (stands_for d view cells old items at fits image may);
+    };
+    empty = stays_empty (view old.disk) old.parts fits at.held;
+  }
+
+  -- so the host that is opened on it stands at all of the log
+  pub stands_again : (new : Seen D M) → MachineIsLawful d → MachineHasOneOwner d → IsSound (view old.disk) → new.parts.name ≡ old.parts.name → new.stopped ≡ false
+      → Fits (view new.disk) old.parts.name new.parts.tail new.parts.greatest
+      → IsChoice (folder old.parts.name (view old.disk).reading) (parts_in (view new.disk).reading old.parts.name new.parts.tail)
+      → IsHeld (view new.disk) old.parts.name new.parts.tail
+      → hosted cells new.core ≡ replayed (hosted_told d) 0 (entries_of (parts_in (view new.disk).reading old.parts.name new.parts.tail))
+      → StandsAt d view cells new items
+  stands_again new lawful owner sound named runs new_fits choice held state =
+      let is = sym named in
+      let opened = opens_at d view cells (view old.disk) new items (length items) lawful owner sound
+      (subst (λ (n : List ℕ). IsInOrder d (view old.disk) n items (length items)) is stays_in_order) runs
+      (subst (λ (n : List ℕ). Fits (view new.disk) n new.parts.tail new.parts.greatest) is new_fits)
+      (subst (λ (n : List ℕ). IsChoice (folder n (view old.disk).reading) (parts_in (view new.disk).reading n new.parts.tail)) is choice)
+      (subst (λ (n : List ℕ). IsHeld (view new.disk) n new.parts.tail) is held)
+      (subst (λ (n : List ℕ). hosted cells new.core ≡ replayed (hosted_told d) 0 (entries_of (parts_in (view new.disk).reading n new.parts.tail))) is state) in
+      subst (StandsAt d view cells new) (take_all opened.count items opened.enough) opened.stands
+
+  -- and whatever a crash leaves on the way stands for it
+  pub leaves_whole : (w : View)
+      → ((least : ℕ) → FilesAreInOrder (view old.disk) old.parts.name (hosted_stored d items) least → LeavesOnly (view old.disk) w (StandsForPrefix old.parts.name (hosted_stored d items) least))
+      → LeavesOnly (view old.disk) w (λ (image : Image). StandsFor d old.parts.name image items)
+  leaves_whole w leaves =
+      let name = old.parts.name in
+      let least = length items in
+      weaker (view old.disk) w (StandsForPrefix name (hosted_stored d items) least) (λ (image : Image). StandsFor d name image items)
+      (leaves least (λ image may. entries_prefix d name items least image (stays_in_order.each image may)))
+      (λ image has. whole_prefix d name items image (items_prefix d name items least image has))
+
+-- the files lie as they lay, with no others beside them
+pub lie_as_before : (v w : View) (old new : Parts) → Fits v old.name old.tail old.greatest → new.name ≡ old.name
+    → IsChoice (folder old.name v.reading) (parts_in w.reading old.name new.tail) → IsGreatestListed v old.name new.greatest
+    → layout_in w new ≡ alone (layout_in v old)
+lie_as_before v w old new fits named choice great =
+    lie_alike old.name v.reading (layout_in w new) (alone (layout_in v old)) (lies_so v w old.name new named choice great) (is_laid_out v old.name old.tail old.greatest fits).lies
+
+-- a folder that fits what is remembered of it has no fault
+pub fits_no_fault : (v : View) (name : List ℕ) (tail : Option Tail) (greatest : ℕ) (id : FileId) → Fits v name tail greatest → IsFault (folder name v.reading) id → ⊥
+fits_no_fault v name tail greatest id fits fault = none_at_fault v v name tail greatest id fits (choice_is v name tail greatest fits) fault
