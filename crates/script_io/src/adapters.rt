@@ -1,6 +1,6 @@
 // Any reader of std as a source, and any writer as a sink. What the system gives and takes no
 // contract can say: with the memory forms tested beside them, these two are the trusted edge.
-ghost use Rattle.std.specs.Prelude.{◌≡◌, ◌<◌, ◌≤◌, ℕ, List, Some, length, take, IfOk, OnOk, OnErr, false};
+ghost use Rattle.std.specs.Prelude.{◌≡◌, ◌<◌, ◌≤◌, ℕ, List, Some, length, take, IfOk, OnOk, OnErr, false, true};
 ghost use Rattle.std.specs.Io.KnownBytes.{Appends, Consumes, IsAtEnd, Keeps};
 ghost use Rattle.script_io.specs.Streams.{HasCause};
 
@@ -111,9 +111,10 @@ impl<W: Write> WriteSink<W> {
     }
 
     /// Flushes the writer where its last flush failed. Nothing more is written by it. After `Ok`
-    /// nothing that was taken is held back.
+    /// nothing that was taken is held back; after `Failed` the next call flushes again.
     pub fn flush(&mut self) -> Result<(), Failed>
         ensures sent { OnOk result (self.new.is_held ≡ false) }
+        ensures held { OnErr result (self.new.is_held ≡ true) }
         ensures kept { (before : List ℕ) → ⟦<WriteSink<W> as Sink>⟧.written self.old ≡ Some before → ⟦<WriteSink<W> as Sink>⟧.written self.new ≡ Some before }
         ensures cause { HasCause (⟦<WriteSink<W> as Sink>⟧.faults self.old) (⟦<WriteSink<W> as Sink>⟧.faults self.new) result }
     {
@@ -126,6 +127,7 @@ impl<W: Write> WriteSink<W> {
     /// Flushes the writer.
     fn send(&mut self) -> Result<(), Failed>
         ensures sent { OnOk result (self.new.is_held ≡ false) }
+        ensures held { OnErr result (self.new.is_held ≡ true) }
         ensures kept { Keeps (W.contents self.old.writer) (W.contents self.new.writer) }
         ensures cause { HasCause self.old.faults self.new.faults result }
     {
