@@ -3,20 +3,22 @@ use Rattle.std.proofs.Common.{◌≡◌, ℕ, ◌+◌, ◌-◌, ◌≤◌, ◌<�
 use Rattle.std.proofs.lemmas.List.{append-nil, take_all}
 use Rattle.std.proofs.lemmas.Bool.Decides.{nat_tests}
 use Rattle.std.proofs.Math.Seq.{take-append-add, take-append_seam}
-use Rattle.disk_model.specs.Image.{Image}
 use Rattle.disk_model.specs.View.{View}
-use Rattle.log_model.specs.Log.{Item}
-use Rattle.log_model.specs.Layout.{Layout}
+use Rattle.segment_set.specs.Fits.{KeepsNames}
+use Rattle.host_recovery.specs.Seen.{Seen}
+use Rattle.resource_catalog.specs.Parts.{Parts}
 use Rattle.copycat_tool.specs.Script.{command, line_limit, script_limit}
 use Rattle.copycat_tool.specs.Report.{Run, Report, Cut, Whole, Broken, Above, report, one, ends, in_front, last_piece, cut_of}
-use Rattle.log_model.specs.declared.Ending.{Ending}
-use Rattle.log_model.specs.declared.Ending.TheVariants.{Done, Fault, TooLong, ReadFault, WriteFault, DiskFault, NoMemory}
+use Rattle.copycat_tool.specs.declared.ending.Ending.{Ending}
+use Rattle.copycat_tool.specs.declared.ending.Ending.TheVariants.{Done, Fault, TooLong, ReadFault, WriteFault, DiskFault, NoMemory, Damaged}
 use Rattle.copycat_tool.specs.Reading.{Finds, TakesMore, EndsAt, IsShort, IsTooLong}
 use Rattle.copycat_tool.specs.declared.reader.Piece.{Piece}
 use Rattle.copycat_tool.specs.declared.reader.ReadError.{ReadError}
-use Rattle.copycat_tool.specs.Runs.{Files, files_of, KeepsOtherNames, Answered, Ended, IsComplete, came, reported}
+use Rattle.copycat_tool.specs.Runs.{Files, Answered, Ended, IsComplete, came, reported}
+use Rattle.copycat_tool.specs.Standing.{IsAt, IsAtRest}
+use Rattle.copycat_tool.specs.Turning.{HasRun}
 use Rattle.copycat_tool.proofs.ReportLemmas.{report_at, report_none, report_long}
-use Rattle.copycat_tool.proofs.Progress.{SoFar, IsAtRest, at_first, one_more, stays, ends_after}
+use Rattle.copycat_tool.proofs.Progress.{SoFar, at_first, one_more, stays, ends_after}
 
 -- So many lines were answered, and this is held and left of the script.
 pub record Met (files : Files) (first run : Run) (number : ℕ) (old now : View) (script held : List ℕ) (taken : ℕ) (left : Option (List ℕ)) (before : List ℕ) (written : Option (List ℕ)) : Type 0 where
@@ -28,6 +30,12 @@ pub record Met (files : Files) (first run : Run) (number : ℕ) (old now : View)
   pub left_is : left ≡ Some rest
   pub taken_is : taken ≡ length consumed + length held
   pub written_is : written ≡ Some (before ++ text)
+
+-- the same of a host, with the run that it stands at then
+pub record MetAt {D : Type 0} (view : D → View) (files : Files) (old now : Seen D Parts) (first : Run) (number : ℕ) (script held : List ℕ) (taken : ℕ) (left : Option (List ℕ)) (before : List ℕ) (written : Option (List ℕ)) : Type 0 where
+  pub run : Run
+  pub at : IsAt view files now run
+  pub met : Met files first run number (view old.disk) (view now.disk) script held taken left before written
 
 -- more is held
 pub parts_more : (script consumed held held' left rest : List ℕ) (taken taken' : ℕ) → script ≡ consumed ++ (held ++ left) → TakesMore left held held' taken taken' rest → script ≡ consumed ++ (held' ++ rest)
@@ -139,10 +147,7 @@ other size ReadFault run script left isnt = absurd (isnt refl)
 other size WriteFault run script left isnt = refl
 other size DiskFault run script left isnt = refl
 other size NoMemory run script left isnt = refl
-
--- the run ended, and this was written since it began
-abbrev pub Exit : Files → Run → Report → View → View → List ℕ → Option (List ℕ) → Ending → Type 0
-Exit files first told old new before written ending = (text : List ℕ) × (written ≡ Some (before ++ text)) × Ended files first told old new text ending
+other size (Damaged base generation at) run script left isnt = refl
 
 -- before the first piece
 pub met_first : (files : Files) (first : Run) (v : View) → IsAtRest files v first → (script held : List ℕ) (taken : ℕ) (left : Option (List ℕ)) (before : List ℕ) (written : Option (List ℕ))
@@ -161,12 +166,12 @@ met_first files first v at_rest script held taken left before written none zero 
 module _ (files : Files) (first run : Run) (number : ℕ) (old now : View) (script held : List ℕ) (taken : ℕ) (left : Option (List ℕ)) (before : List ℕ) (written : Option (List ℕ))
     (m : Met files first run number old now script held taken left before written) where
   exit : (small : Report) (new : View) (more : List ℕ) (ending : Ending) → Ended files run small now new more ending → (told : Report) → told ≡ in_front m.so_far.done small
-      → (written' : Option (List ℕ)) → written' ≡ Some ((before ++ m.text) ++ more) → Exit files first told old new before written' ending
-  exit small new more ending e told is written' w = (
-    m.text ++ more,
-    w ∙ ap (λ (l : List ℕ). Some l) (append_assoc before m.text more),
-    subst (λ (r : Report). Ended files first r old new (m.text ++ more) ending) (sym is) (ends_after files first run old now m.text m.so_far.done m.so_far.text_is m.so_far.run_is m.so_far.any_moment small new more ending e),
-  )
+      → (written' : Option (List ℕ)) → written' ≡ Some ((before ++ m.text) ++ more) → HasRun files told old new first before written' ending
+  exit small new more ending e told is written' w = record {
+    text = m.text ++ more;
+    written_is = w ∙ ap (λ (l : List ℕ). Some l) (append_assoc before m.text more);
+    ended = subst (λ (r : Report). Ended files first r old new (m.text ++ more) ending) (sym is) (ends_after files first run old now m.text m.so_far.done m.so_far.text_is m.so_far.run_is m.so_far.any_moment small new more ending e);
+  }
 
   still : written ≡ Some ((before ++ m.text) ++ [])
   still = m.written_is ∙ ap (λ (l : List ℕ). Some l) (sym (append-nil (before ++ m.text)))
@@ -175,7 +180,7 @@ module _ (files : Files) (first run : Run) (number : ℕ) (old now : View) (scri
   complete ending = record { ending_is = refl; all = refl; nothing_ahead = refl; no_part = refl }
 
   -- no memory was left
-  pub memory_exit : IsAtRest files now run → taken ≤ script_limit → Exit files first (report files.size first 1 (cut_of script) (take script_limit script)) old now before written NoMemory
+  pub memory_exit : IsAtRest files now run → taken ≤ script_limit → HasRun files (report files.size first 1 (cut_of script) (take script_limit script)) old now first before written NoMemory
   memory_exit at_rest bound =
       exit _ now [] NoMemory (stays files run (report files.size run number (cut_of script) (held ++ take (script_limit - length (m.consumed ++ held)) m.rest)) now NoMemory at_rest refl refl tt) _
       (whole_is files first run number old now m.text m.consumed m.so_far script held m.rest m.parts (omega (arith, bound, m.taken_is))) written still
@@ -192,26 +197,26 @@ module _ (files : Files) (first run : Run) (number : ℕ) (old now : View) (scri
       limit' = omega (arith, bound, taken_is')
 
       -- the first line is too long
-      pub long_exit : IsAtRest files now run → IsTooLong held' → Exit files first (report files.size first 1 (cut_of script) (take script_limit script)) old now before written (Fault number)
+      pub long_exit : IsAtRest files now run → IsTooLong held' → HasRun files (report files.size first 1 (cut_of script) (take script_limit script)) old now first before written (Fault number)
       long_exit at_rest long =
           exit (ends (Fault number)) now [] (Fault number) (stays files run (ends (Fault number)) now (Fault number) at_rest (complete (Fault number)) refl at_rest.laid_out) _
           (at_long files first run number old now m.text m.consumed m.so_far script held' f.rest parts' limit' long) written still
 
       -- the script goes on above its limit
-      pub above_exit : IsAtRest files now run → IsShort held' → taken' ≡ script_limit → 0 < length f.rest → Exit files first (report files.size first 1 (cut_of script) (take script_limit script)) old now before written TooLong
+      pub above_exit : IsAtRest files now run → IsShort held' → taken' ≡ script_limit → 0 < length f.rest → HasRun files (report files.size first 1 (cut_of script) (take script_limit script)) old now first before written TooLong
       above_exit at_rest short full some =
           exit (ends TooLong) now [] TooLong (stays files run (ends TooLong) now TooLong at_rest (complete TooLong) refl at_rest.laid_out) _
           (at_above files first run number old now m.text m.consumed m.so_far script held' f.rest parts' limit' short (omega (arith, full, taken_is')) some) written still
 
       -- the source failed
-      pub broken_exit : IsAtRest files now run → IsShort held' → left' ≡ Some f.rest → Exit files first (reported files.size ReadFault first script left') old now before written ReadFault
+      pub broken_exit : IsAtRest files now run → IsShort held' → left' ≡ Some f.rest → HasRun files (reported files.size ReadFault first script left') old now first before written ReadFault
       broken_exit at_rest short left_is =
           exit (ends ReadFault) now [] ReadFault (stays files run (ends ReadFault) now ReadFault at_rest (complete ReadFault) refl at_rest.laid_out) _
           (ap (λ (l : Option (List ℕ)). report files.size first 1 Broken (came script l)) left_is ∙ at_broken files first run number old now m.text m.consumed m.so_far script held' f.rest parts' limit' short) written still
 
       -- the last line was answered, or the run ended in it
       pub last_exit : (piece : List ℕ) → piece ≡ held' → IsShort held' → f.rest ≡ [] → (new : View) (more : List ℕ) (ending : Ending) → (ending ≡ ReadFault → ⊥) → Ended files run (last_piece files.size Whole run number piece) now new more ending
-          → (written' : Option (List ℕ)) → written' ≡ Some ((before ++ m.text) ++ more) → Exit files first (reported files.size ending first script left') old new before written' ending
+          → (written' : Option (List ℕ)) → written' ≡ Some ((before ++ m.text) ++ more) → HasRun files (reported files.size ending first script left') old new first before written' ending
       last_exit piece is short none new more ending isnt e written' w =
           exit (last_piece files.size Whole run number held') new more ending (subst (λ (l : List ℕ). Ended files run (last_piece files.size Whole run number l) now new more ending) is e) _
           (other files.size ending first script left' isnt ∙ at_last files first run number old now m.text m.consumed m.so_far script held' f.rest parts' limit' short none) written' w
@@ -219,7 +224,7 @@ module _ (files : Files) (first run : Run) (number : ℕ) (old now : View) (scri
       -- the run ended in a line
       pub line_exit : (n : ℕ) → EndsAt held' n → (line : List ℕ) → line ≡ take n held' → (new : View) (more : List ℕ) (ending : Ending) → (ending ≡ ReadFault → ⊥)
           → ((rest : Run → Report) → Ended files run (one files.size (command line) run number rest) now new more ending)
-          → (written' : Option (List ℕ)) → written' ≡ Some ((before ++ m.text) ++ more) → Exit files first (reported files.size ending first script left') old new before written' ending
+          → (written' : Option (List ℕ)) → written' ≡ Some ((before ++ m.text) ++ more) → HasRun files (reported files.size ending first script left') old new first before written' ending
       line_exit n at line is new more ending isnt e written' w =
           let rest = behind files first run number old now m.text m.consumed m.so_far script held' f.rest parts' limit' n in
           exit (one files.size (command (take n held')) run number rest) new more ending (subst (λ (l : List ℕ). Ended files run (one files.size (command l) run number rest) now new more ending) is (e rest)) _
@@ -249,25 +254,6 @@ met_as files first run number old now script held held' taken taken' left before
     subst (λ (l : List ℕ). Met files first run number old now script l taken' left before written) held_is
     (subst (λ (n : ℕ). Met files first run number old now script held n left before written) taken_is m)
 
--- A call on the log tells of the name and the size at that call, which are those at the start.
-module _ (stands : List ℕ → Image → List Item → Type 0) (lies : List ℕ → Image → Layout → Type 0) (name name' : List ℕ) (size size' : ℕ) (name_is : name' ≡ name) (size_is : size' ≡ size) where
-  as_first : (P : List ℕ → ℕ → Type 0) → P name' size' → P name size
-  as_first P there = subst (λ (n : List ℕ). P n size) name_is (subst (λ (s : ℕ). P name' s) size_is there)
-
-  pub ended_as : (line : List ℕ) (run : Run) (number : ℕ) (v w : View) (text : List ℕ) (ending : Ending)
-      → ((rest : Run → Report) → Ended (files_of stands lies name' size') run (one size' (command line) run number rest) v w text ending)
-      → (rest : Run → Report) → Ended (files_of stands lies name size) run (one size (command line) run number rest) v w text ending
-  ended_as line run number v w text ending e rest = as_first (λ n s. Ended (files_of stands lies n s) run (one s (command line) run number rest) v w text ending) (e rest)
-
-  pub last_as : (piece : List ℕ) (run : Run) (number : ℕ) (v w : View) (text : List ℕ) (ending : Ending)
-      → Ended (files_of stands lies name' size') run (last_piece size' Whole run number piece) v w text ending
-      → Ended (files_of stands lies name size) run (last_piece size Whole run number piece) v w text ending
-  last_as piece run number v w text ending e = as_first (λ n s. Ended (files_of stands lies n s) run (last_piece s Whole run number piece) v w text ending) e
-
-  pub answered_as : (line : List ℕ) (run run' : Run) (v w : View) (text : List ℕ)
-      → Answered (files_of stands lies name' size') line run run' v w text → Answered (files_of stands lies name size) line run run' v w text
-  answered_as line run run' v w text a = as_first (λ n s. Answered (files_of stands lies n s) line run run' v w text) a
-
 -- files of other names read as before, at a further call too
-pub others_further : (old mid new : View) (name name' : List ℕ) → name' ≡ name → KeepsOtherNames old mid name → KeepsOtherNames mid new name' → KeepsOtherNames old new name
+pub others_further : (old mid new : View) (name name' : List ℕ) → name' ≡ name → KeepsNames old mid name → KeepsNames mid new name' → KeepsNames old new name
 others_further old mid new name name' is first more q isnt = more q (λ same. isnt (same ∙ is)) ∙ first q isnt

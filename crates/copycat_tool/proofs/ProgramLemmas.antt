@@ -7,96 +7,60 @@ use Rattle.disk_model.specs.View.{View, IsSound, LeavesOnly}
 use Rattle.disk_model.proofs.Moments.{goes_further, has_now, weaker}
 use Rattle.disk_model.proofs.Places.{own}
 use Rattle.segment_files.specs.Parse.{Part}
-use Rattle.segment_files.specs.Folder.{folder, AreOf, IsChoice, IsFault, Stands, StandsForPrefix}
-use Rattle.segment_set.specs.declared.parts.Tail.{Tail}
-use Rattle.segment_set.specs.Fits.{Fits, IsInOrder, log_of, parts_in}
+use Rattle.segment_files.specs.Folder.{folder, AreOf, IsFault, Stands}
+use Rattle.segment_set.specs.Fits.{IsEmptyWhereNone}
 use Rattle.segment_set.specs.declared.opening.OpenError.{OpenError}
 use Rattle.segment_set.specs.declared.opening.OpenError.TheVariants.{Damaged as Damage, NoMemory}
-use Rattle.segment_set.specs.Opening.{IsGreatestListed}
 use Rattle.segment_set.proofs.Images.{nothing, only_one}
 use Rattle.segment_set.proofs.Faultless.{no_fault}
-use Rattle.log_model.specs.Log.{Item}
+use Rattle.log_model.specs.Admission.{Item}
+use Rattle.host_recovery.specs.Opening.{HasPrefix as HostHasPrefix, IsInOrder as HostIsInOrder}
+use Rattle.resource_catalog.specs.Catalog.{catalog_decision}
+use Rattle.resource_catalog.specs.PlainNames.{LogsAreAsModel}
 use Rattle.copycat_tool.specs.Report.{Run, items}
-use Rattle.copycat_tool.specs.FileLogs.{Lies, StandsFor, shown}
-use Rattle.copycat_tool.specs.Logs.{log_is, one_choice}
-use Rattle.copycat_tool.specs.Shown.{choice_is, parts_are}
-use Rattle.copycat_tool.specs.Runs.{Files, HasPrefix, InOrder, Ran, RanSo, all_reported}
+use Rattle.copycat_tool.specs.Logs.{IsLog}
+use Rattle.copycat_tool.specs.Runs.{Files, HasPrefix, IsInOrder, Ran, RanSo, all_reported}
 use Rattle.copycat_tool.specs.Programs.{ClosesUnopened, OrAsBefore, damaged_line, unopened_line, unopened_status}
+use Rattle.copycat_tool.proofs.CallLemmas.{as_hosted, hosted_files, plain_files}
+use Rattle.copycat_tool.proofs.LogLemmas.{logged_front}
 
--- ITEMS AND ENTRIES
+-- PLAIN LOGS AND THOSE OF THE HOST
 
-pub to_entries : (v : View) (name : List ℕ) (log : List Item) (least : ℕ) → InOrder (StandsFor name) v log least → IsInOrder v name log least
-to_entries v name log least order c may =
-    let p = order c may in
-    record {
-      count = p.count;
-      enough = p.enough;
-      within = p.within;
-      stands = p.is;
-    }
+module _ (law : LogsAreAsModel) (name : List ℕ) (log : List Item) (least : ℕ) (logged : IsLog log) where
+  hosted_prefix : (image : Image) → HasPrefix name log least image → HostHasPrefix catalog_decision name log least image
+  hosted_prefix image p = record { count = p.count; enough = p.enough; within = p.within; stands = hosted_files law name (take p.count log) (logged_front p.count log logged) image p.is }
 
-pub to_items : (name : List ℕ) (log : List Item) (least : ℕ) (c : Image) → StandsForPrefix name log least c → HasPrefix (StandsFor name) log least c
-to_items name log least c p = record {
-  count = p.count;
-  enough = p.enough;
-  within = p.within;
-  is = p.stands;
-}
+  plain_prefix : (image : Image) → HostHasPrefix catalog_decision name log least image → HasPrefix name log least image
+  plain_prefix image p = record { count = p.count; enough = p.enough; within = p.within; is = plain_files law name name (take p.count log) (logged_front p.count log logged) refl image p.stands }
 
--- what is left of the log is in order, item by item
-pub left_items : (v w : View) (name : List ℕ) (log : List Item) (least : ℕ) → LeavesOnly v w (StandsForPrefix name log least) → LeavesOnly v w (HasPrefix (StandsFor name) log least)
-left_items v w name log least only = weaker v w (StandsForPrefix name log least) (HasPrefix (StandsFor name) log least) only (to_items name log least)
+  -- a folder that is in order is so for the host
+  pub to_hosted : (v : View) → IsInOrder name v log least → HostIsInOrder catalog_decision v name log least
+  to_hosted v order = record { log = as_hosted law log logged; each = λ image may. hosted_prefix image (order.each image may); empty = order.empty }
 
--- THE LOG THAT IS OPENED
+  -- and what is left of the log stands for a prefix of it
+  pub left_plain : (v w : View) → LeavesOnly v w (HostHasPrefix catalog_decision name log least) → LeavesOnly v w (HasPrefix name log least)
+  left_plain v w only = weaker v w _ _ only plain_prefix
 
-pub record IsPrefix (log : List Item) (least : ℕ) (shows : List Item) : Type 0 where
-  pub count : ℕ
-  pub enough : least ≤ count
-  pub within : count ≤ length log
-  pub is : shows ≡ take count log
-
-pub opens_prefix : (v w : View) (name : List ℕ) (tail : Option Tail) (greatest : ℕ) (log : List Item) (least : ℕ) → IsSound w → Fits w name tail greatest
-    → LeavesOnly v w (StandsForPrefix name log least) → IsPrefix log least (shown w name tail greatest).log
-opens_prefix v w name tail greatest log least sound fits only =
-    let s = has_now v w (StandsForPrefix name log least) sound only w.reading (λ q. own w sound q) in
-    let same : s.stands.parts ≡ parts_in w.reading name tail = one_choice (folder name w.reading) s.stands.parts (parts_in w.reading name tail) s.stands.choice (choice_is w name tail greatest fits) in
-    let entries : log_of (parts_in w.reading name tail) ≡ take s.count log = ap log_of (sym same) ∙ log_is s.stands.parts (take s.count log) s.stands.are in
-    record {
-      count = s.count;
-      enough = s.enough;
-      within = s.within;
-      is = entries;
-    }
-
-pub lies_at_start : (v w : View) (name : List ℕ) (tail : Option Tail) (greatest : ℕ) → IsChoice (folder name v.reading) (parts_in w.reading name tail) → IsGreatestListed v name greatest → Lies name v.reading (shown w name tail greatest).layout
-lies_at_start v w name tail greatest choice great = record {
-  parts = parts_in w.reading name tail;
-  choice = choice;
-  parts_are = refl;
-  greatest = record { above = great.above; taken = great.taken };
-}
+  -- so it is still in order
+  pub still_in_order : (v w : View) → IsSound w → LeavesOnly v w (HasPrefix name log least) → IsEmptyWhereNone w name → IsInOrder name w log least
+  still_in_order v w sound only empty = record { logged = logged; each = λ image may. has_now v w (HasPrefix name log least) sound only image may; empty = empty }
 
 -- NO FAULT
 
+based : (parts : List Part) (log : List Entry) → length parts ≤ 1 → AreOf parts log → (p : Part) → Contains parts p → p.id.base ≡ 1
+based [] log short are p has = absurd (nothing p has)
+based (x ∷ []) log short are p has = ap (λ (r : Part). r.id.base) (sym (only_one x p has)) ∙ are.tile.0
+based (x ∷ y ∷ parts) log short are p has = absurd (omega (arith, short))
+
 -- a folder that stands for a log has none
 stands_no_fault : (v : View) (name : List ℕ) (log : List Entry) (id : FileId) → Stands (folder name v.reading) log → IsFault (folder name v.reading) id → ⊥
-stands_no_fault v name log id s fault = no_fault v name s.parts id s.choice (based s.parts s.choice.one s.are) fault
-  where
-    based : (parts : List Part) → length parts ≤ 1 → AreOf parts log → (p : Part) → Contains parts p → p.id.base ≡ 1
-    based [] short are p has = absurd (nothing p has)
-    based (x ∷ []) short are p has = ap (λ (r : Part). r.id.base) (sym (only_one x p has)) ∙ are.tile.0
-    based (x ∷ y ∷ parts) short are p has = absurd (omega (arith, short))
-
--- where a log was opened there was none
-pub opened_no_fault : (v w : View) (name : List ℕ) (tail : Option Tail) (greatest : ℕ) (id : FileId) → Fits w name tail greatest → IsChoice (folder name v.reading) (parts_in w.reading name tail) → IsFault (folder name v.reading) id → ⊥
-opened_no_fault v w name tail greatest id fits choice fault =
-    stands_no_fault v name (log_of (parts_in w.reading name tail)) id (record { parts = parts_in w.reading name tail; choice = choice; are = parts_are w name tail greatest fits }) fault
+stands_no_fault v name log id s fault = no_fault v name s.parts id s.choice (based s.parts log s.choice.one s.are) fault
 
 -- nor where every crash leaves a log
-pub in_order_no_fault : (v : View) (name : List ℕ) (log : List Item) (least : ℕ) (id : FileId) → IsSound v → InOrder (StandsFor name) v log least → IsFault (folder name v.reading) id → ⊥
+pub in_order_no_fault : (v : View) (name : List ℕ) (log : List Item) (least : ℕ) (id : FileId) → IsSound v → IsInOrder name v log least → IsFault (folder name v.reading) id → ⊥
 in_order_no_fault v name log least id sound order fault =
-    let p = order v.reading (λ q. own v sound q) in
-    stands_no_fault v name (take p.count log) id p.is fault
+    let p = order.each v.reading (λ q. own v sound q) in
+    stands_no_fault v name _ id p.is fault
 
 -- what was written where the status says that a file is damaged
 pub damage_written : (name : List ℕ) (error : OpenError) (before : List ℕ) (written : Option (List ℕ)) (status : ℕ) → ClosesUnopened name error before written status → status ≡ 7
@@ -144,4 +108,4 @@ runs_from_start files run script left v m w before text status read_failed faile
 }
   where
     P : Image → Type 0
-    P = HasPrefix files.stands (run.log ++ items (take ran.ended.stored (all_reported files.size ran.ending run script left).answers)) (length run.log)
+    P = HasPrefix files.name (run.log ++ items (take ran.ended.stored (all_reported files.size ran.ending run script left).answers)) (length run.log)

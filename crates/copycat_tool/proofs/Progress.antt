@@ -1,18 +1,22 @@
 -- How far a run has come, and how it ends from there.
 use Rattle.std.proofs.Common.{◌≡◌, ℕ, ◌+◌, ◌≤◌, List, [], ◌∷◌, ◌++◌, length, take, false, refl, ap, sym, ◌∙◌, subst, arith, append_assoc, length-append}
+use Rattle.std.proofs.lemmas.List.{append-nil}
 use Rattle.std.proofs.Math.Seq.{take-append-add, drop-append-add}
 use Rattle.disk_model.specs.Image.{Image}
-use Rattle.disk_model.specs.View.{View, MayLeave, LeavesOnly, IsSound}
+use Rattle.disk_model.specs.View.{View, MayLeave, LeavesOnly}
 use Rattle.disk_model.proofs.Moments.{started, goes_further, weaker}
-use Rattle.log_model.specs.Log.{Item}
-use Rattle.log_model.specs.Layout.{Layout, alone}
+use Rattle.log_model.specs.Admission.{Item}
+use Rattle.log_model.specs.Layout.{alone}
+use Rattle.host_recovery.specs.Lying.{LiesAlone}
 use Rattle.copycat_tool.specs.Script.{has_feed}
 use Rattle.copycat_tool.specs.Report.{Run, Answer, Report, Cut, report, in_front, after, items, printed}
-use Rattle.log_model.specs.declared.Ending.{Ending}
-use Rattle.log_model.specs.declared.Ending.TheVariants.{Done, Fault, TooLong, ReadFault, WriteFault, DiskFault, NoMemory}
-use Rattle.copycat_tool.specs.Runs.{Files, files_of, IsKept, HasPrefix, Ended, EndsAs, WhereWhole, IsComplete, IsPartOfNext, Answered, sure}
+use Rattle.copycat_tool.specs.declared.ending.Ending.{Ending}
+use Rattle.copycat_tool.specs.declared.ending.Ending.TheVariants.{Done, Fault, TooLong, ReadFault, WriteFault, DiskFault, NoMemory, Damaged}
+use Rattle.copycat_tool.specs.Logs.{IsLog}
+use Rattle.copycat_tool.specs.Runs.{Files, HasPrefix, Ended, EndsAs, WhereWhole, IsComplete, IsPartOfNext, Answered, sure}
+use Rattle.copycat_tool.specs.Standing.{IsAtRest}
 use Rattle.copycat_tool.proofs.ReportLemmas.{report_at}
-use Rattle.copycat_tool.proofs.Prefixes.{printed-append, items-append, after-nil, after-append, all_of, longer}
+use Rattle.copycat_tool.proofs.Prefixes.{printed-append, items-append, after-append, log_after, all_of, longer, with_less}
 
 -- so many lines were read to their end and answered
 pub record SoFar (files : Files) (first run : Run) (number : ℕ) (consumed : List ℕ) (old now : View) (text : List ℕ) : Type 0 where
@@ -20,42 +24,24 @@ pub record SoFar (files : Files) (first run : Run) (number : ℕ) (consumed : Li
   pub text_is : text ≡ printed done
   pub run_is : run ≡ after files.size first done
   pub goes_on : (cut : Cut) (rest : List ℕ) → report files.size first 1 cut (consumed ++ rest) ≡ in_front done (report files.size run number cut rest)
-  pub any_moment : LeavesOnly old now (HasPrefix files.stands run.log (length first.log))
-
--- between two calls: whatever a crash leaves now is this log, and its files lie as the run says
-pub record IsAtRest (files : Files) (v : View) (run : Run) : Type 0 where
-  pub sound : IsSound v
-  pub kept : IsKept files.stands v run.log
-  pub laid_out : files.lies v.reading (alone run.layout)
-
--- a log that is ready is at rest, under the name that it had before
-pub at_rest_as : (stands : List ℕ → Image → List Item → Type 0) (lies : List ℕ → Image → Layout → Type 0) (name name' : List ℕ) (size : ℕ) (v : View) (run : Run) → name' ≡ name
-    → IsSound v → IsKept (stands name') v run.log → lies name' v.reading (alone run.layout) → IsAtRest (files_of stands lies name size) v run
-at_rest_as stands lies name name' size v run is sound kept laid_out = record {
-  sound = sound;
-  kept = λ image may. subst (λ (n : List ℕ). stands n image run.log) is (kept image may);
-  laid_out = subst (λ (n : List ℕ). lies n v.reading (alone run.layout)) is laid_out;
-}
+  pub any_moment : LeavesOnly old now (HasPrefix files.name run.log (length first.log))
 
 module _ (files : Files) where
-  abbrev stands : Image → List Item → Type 0
-  stands = files.stands
-
   pub at_first : (first : Run) (v : View) → IsAtRest files v first → SoFar files first first 1 [] v v []
   at_first first v rest = record {
     done = [];
     text_is = refl;
-    run_is = sym (after-nil files.size first);
+    run_is = refl;
     goes_on = λ cut rest. refl;
-    any_moment = started v (HasPrefix stands first.log (length first.log)) rest.sound (λ image may. all_of stands first.log (length first.log) image (omega arith) (rest.kept image may));
+    any_moment = started v (HasPrefix files.name first.log (length first.log)) rest.sound (λ image may. all_of files.name first.log (length first.log) image (omega arith) (rest.kept image may));
   }
 
   -- nothing was written and nothing stored
   pub stays : (run : Run) (reported : Report) (v : View) (ending : Ending) → IsAtRest files v run → EndsAs ending reported 0 0 [] → sure ending 0 0 ≡ 0
-      → WhereWhole ending (files.lies v.reading (alone (after files.size run reported.answers).layout)) → Ended files run reported v v [] ending
+      → WhereWhole ending (LiesAlone files.name v.reading (alone (after files.size run reported.answers).layout)) → Ended files run reported v v [] ending
   stays run reported v ending rest ends_as sure_is layout =
-      let all : (n : ℕ) (image : Image) → n ≤ length run.log → MayLeave v image → HasPrefix stands (run.log ++ []) n image =
-      λ n image le may. longer stands run.log [] n n image (omega arith) (all_of stands run.log n image le (rest.kept image may)) in
+      let all : (n : ℕ) (image : Image) → n ≤ length run.log → MayLeave v image → HasPrefix files.name (run.log ++ []) n image =
+      λ n image le may. longer files.name run.log [] n n image (omega arith) (all_of files.name run.log n image le (rest.kept image may)) in
       record {
         whole = 0;
         part = [];
@@ -65,8 +51,12 @@ module _ (files : Files) where
         one_ahead = omega arith;
         ends_as = ends_as;
         any_moment = started v _ rest.sound (λ image may. all (length run.log) image (omega arith) may);
-        at_exit = λ image may. subst (λ (n : ℕ). HasPrefix stands (run.log ++ []) (length (run.log ++ items (take n reported.answers))) image) (sym sure_is)
-            (all (length (run.log ++ [])) image (omega (arith, length-append run.log (items []))) may);
+        at_exit = record {
+          logged = subst IsLog (sym (append-nil run.log)) rest.logged;
+          each = λ image may. subst (λ (n : ℕ). HasPrefix files.name (run.log ++ []) (length (run.log ++ items (take n reported.answers))) image) (sym sure_is)
+              (all (length (run.log ++ [])) image (omega (arith, length-append run.log (items []))) may);
+          empty = rest.empty;
+        };
         layout = layout;
       }
 
@@ -75,7 +65,7 @@ module _ (files : Files) where
     done = so_far.done
 
     log_is : run.log ≡ first.log ++ items done
-    log_is = ap (λ (r : Run). r.log) so_far.run_is
+    log_is = ap (λ (r : Run). r.log) so_far.run_is ∙ log_after files.size first done
 
     shorter : length first.log ≤ length run.log
     shorter = omega (arith, ap length log_is, length-append first.log (items done))
@@ -85,7 +75,7 @@ module _ (files : Files) where
         → SoFar files first run' (number + 1) (consumed ++ (line ++ 10 ∷ [])) old new (text ++ more)
     one_more line run' new more none answered =
         let these : List Answer = answered.answers in
-        let log_more : run'.log ≡ run.log ++ items these = ap (λ (r : Run). r.log) answered.so.run_is in
+        let log_more : run'.log ≡ run.log ++ items these = ap (λ (r : Run). r.log) answered.so.run_is ∙ log_after files.size run these in
         record {
           done = done ++ these;
           text_is = ap (λ (l : List ℕ). l ++ more) so_far.text_is
@@ -100,9 +90,9 @@ module _ (files : Files) where
               ∙ ap (λ (r : Report). in_front done r) (report_at files.size run number cut line rest none)
               ∙ ap (λ (r : Report). in_front done r) (answered.reported number (λ run. report files.size run (number + 1) cut rest))
               ∙ regroup these (report files.size run' (number + 1) cut rest);
-          any_moment = goes_further old now new (HasPrefix stands run'.log (length first.log))
-              (weaker old now _ _ so_far.any_moment (λ image has. subst (λ (l : List Item). HasPrefix stands l (length first.log) image) (sym log_more) (longer stands run.log (items these) _ _ image (omega arith) has)))
-              (weaker now new _ _ answered.so.any_moment (λ image has. record { count = has.count; enough = omega (arith, shorter, has.enough); within = has.within; is = has.is }));
+          any_moment = goes_further old now new (HasPrefix files.name run'.log (length first.log))
+              (weaker old now _ _ so_far.any_moment (λ image has. subst (λ (l : List Item). HasPrefix files.name l (length first.log) image) (sym log_more) (longer files.name run.log (items these) _ _ image (omega arith) has)))
+              (weaker now new _ _ answered.so.any_moment (λ image has. with_less files.name run'.log _ _ image shorter has));
         }
       where
         regroup : (these : List Answer) (r : Report) → in_front done (in_front these r) ≡ in_front (done ++ these) r
@@ -110,9 +100,9 @@ module _ (files : Files) where
 
   -- what comes behind some answers
   module _ (first run : Run) (old now : View) (text : List ℕ) (done : List Answer) (text_is : text ≡ printed done) (run_is : run ≡ after files.size first done)
-      (left : LeavesOnly old now (HasPrefix stands run.log (length first.log))) where
+      (left : LeavesOnly old now (HasPrefix files.name run.log (length first.log))) where
     log_is' : run.log ≡ first.log ++ items done
-    log_is' = ap (λ (r : Run). r.log) run_is
+    log_is' = ap (λ (r : Run). r.log) run_is ∙ log_after files.size first done
 
     no_longer : length first.log ≤ length run.log
     no_longer = omega (arith, ap length log_is', length-append first.log (items done))
@@ -160,6 +150,7 @@ module _ (files : Files) where
       ends_so WriteFault is = part_of_next is
       ends_so DiskFault is = is
       ends_so NoMemory is = is
+      ends_so (Damaged base generation at) is = is
 
       sure_so : (x : Ending) (d w s : ℕ) → sure x (d + w) (d + s) ≡ d + sure x w s
       sure_so Done d w s = refl
@@ -169,6 +160,7 @@ module _ (files : Files) where
       sure_so WriteFault d w s = refl
       sure_so DiskFault d w s = refl
       sure_so NoMemory d w s = refl
+      sure_so (Damaged base generation at) d w s = refl
 
       pub ends_after : Ended files first (in_front done rest) old new (text ++ more) ending
       ends_after = record {
@@ -182,13 +174,17 @@ module _ (files : Files) where
         not_behind = omega (arith, e.not_behind);
         one_ahead = omega (arith, e.one_ahead);
         ends_as = ends_so ending e.ends_as;
-        any_moment = subst (λ (l : List Item). LeavesOnly old new (HasPrefix stands l (length first.log))) (sym (stored_log e.stored))
-            (goes_further old now new (HasPrefix stands (run.log ++ items (take e.stored rest.answers)) (length first.log))
-            (weaker old now _ _ left (λ image has. longer stands run.log (items (take e.stored rest.answers)) _ _ image (omega arith) has))
-            (weaker now new _ _ e.any_moment (λ image has. record { count = has.count; enough = omega (arith, no_longer, has.enough); within = has.within; is = has.is })));
-        at_exit = λ image may.
-            subst (λ (n : ℕ). HasPrefix stands (first.log ++ items (take (length done + e.stored) all)) (length (first.log ++ items (take n all))) image) (sym (sure_so ending (length done) e.whole e.stored))
-            (subst (λ (l : List Item). HasPrefix stands (first.log ++ items (take (length done + e.stored) all)) (length l) image) (sym (stored_log (sure ending e.whole e.stored)))
-            (subst (λ (l : List Item). HasPrefix stands l (length (run.log ++ items (take (sure ending e.whole e.stored) rest.answers))) image) (sym (stored_log e.stored)) (e.at_exit image may)));
-        layout = subst (λ (r : Run). WhereWhole ending (files.lies new.reading (alone r.layout))) run_after e.layout;
+        any_moment = subst (λ (l : List Item). LeavesOnly old new (HasPrefix files.name l (length first.log))) (sym (stored_log e.stored))
+            (goes_further old now new (HasPrefix files.name (run.log ++ items (take e.stored rest.answers)) (length first.log))
+            (weaker old now _ _ left (λ image has. longer files.name run.log (items (take e.stored rest.answers)) _ _ image (omega arith) has))
+            (weaker now new _ _ e.any_moment (λ image has. with_less files.name _ _ _ image no_longer has)));
+        at_exit = record {
+          logged = subst IsLog (sym (stored_log e.stored)) e.at_exit.logged;
+          each = λ image may.
+              subst (λ (n : ℕ). HasPrefix files.name (first.log ++ items (take (length done + e.stored) all)) (length (first.log ++ items (take n all))) image) (sym (sure_so ending (length done) e.whole e.stored))
+              (subst (λ (l : List Item). HasPrefix files.name (first.log ++ items (take (length done + e.stored) all)) (length l) image) (sym (stored_log (sure ending e.whole e.stored)))
+              (subst (λ (l : List Item). HasPrefix files.name l (length (run.log ++ items (take (sure ending e.whole e.stored) rest.answers))) image) (sym (stored_log e.stored)) (e.at_exit.each image may)));
+          empty = e.at_exit.empty;
+        };
+        layout = subst (λ (r : Run). WhereWhole ending (LiesAlone files.name new.reading (alone r.layout))) run_after e.layout;
       }

@@ -5,7 +5,7 @@ use Rattle.copycat_tool.specs.declared.lines.Command.{Command}
 use Rattle.script_text.specs.Reading.{line_read}
 use Rattle.copycat_tool.specs.Script.{Lines, has_feed, command, if_line, line_limit}
 use Rattle.copycat_tool.specs.Report.{Run, Cut, Whole, Broken, Above, report, play, one, ends, last_piece}
-use Rattle.log_model.specs.declared.Ending.TheVariants.{Fault, Done, ReadFault, TooLong}
+use Rattle.copycat_tool.specs.declared.ending.Ending.TheVariants.{Fault, Done, ReadFault, TooLong}
 use Rattle.copycat_tool.proofs.LineLemmas.{lines_at, lines_none, lines_begin, Begins}
 
 is_long : (line : List ℕ) → line_limit < length line → nat_lt line_limit (length line) ≡ true

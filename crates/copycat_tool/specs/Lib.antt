@@ -1,10 +1,11 @@
+pub mod Calls
 pub mod Closing
-pub mod FileLogs
+pub mod Logs
 pub mod Programs
 pub mod Reading
 pub mod Report
 pub mod Runs
-pub mod Logs
 pub mod Script
-pub mod Shown
+pub mod Standing
+pub mod Turning
 pub mod Words

@@ -1,43 +1,20 @@
--- The log that the files of a folder show, entry by entry.
-use Rattle.std.proofs.Common.{◌≡◌, ℕ, ◌+◌, List, [], ◌∷◌, ◌++◌, length, refl, sym, ap, ◌∙◌, arith, fold}
-use Rattle.std.specs.List.{enumerate_from}
-use Rattle.host_types.specs.declared.entry.Entry.{Entry}
-use Rattle.segment_files.specs.Parse.{Part}
-use Rattle.segment_files.specs.Folder.{Folder, IsChoice, AreOf}
-use Rattle.segment_set.specs.Fits.{bare, log_of}
-use Rattle.segment_set.proofs.Images.{nothing, only_one, here}
-use Rattle.log_model.specs.Log.{Item, State, start, step, folded}
+-- The logs that the program takes, and the files that stand for them.
+use Rattle.std.specs.Prelude.{ℕ, List, IsTrue}
+use Rattle.std.specs.List.{AllByRecursion}
+use Rattle.disk_model.specs.Image.{Image}
+use Rattle.segment_files.specs.Folder.{folder, Stands}
+use Rattle.log_model.specs.Admission.{Item}
+use Rattle.log_model.specs.Fitting.{ItemsFit}
+use Rattle.log_model.specs.Stored.{stored, is_log}
+use Rattle.resource_catalog.specs.PlainNames.{IsItemOfBuilt}
 
-pub bare-enumerate : (n : ℕ) (log : List Entry) → bare (enumerate_from n log) ≡ log
-bare-enumerate n [] = refl
-bare-enumerate n (e ∷ log) = ap (λ (l : List Entry). e ∷ l) (bare-enumerate (n + 1) log)
+-- A log that the program may have taken: each item was admitted where it stands, is as the program's types have it, and creates
+-- nothing of a kind that isn't built.
+pub record IsLog (log : List Item) : Type 0 where
+  pub admitted : IsTrue (is_log log)
+  pub fits : ItemsFit log
+  pub built : AllByRecursion IsItemOfBuilt log
 
--- the log that parts are is the one they show
-pub log_is : (parts : List Part) (log : List Entry) → AreOf parts log → log_of parts ≡ log
-log_is parts log are = ap bare are.present ∙ bare-enumerate 1 log
-
--- a folder has one list of parts
-pub one_choice : (files : Folder) (a b : List Part) → IsChoice files a → IsChoice files b → a ≡ b
-one_choice files [] [] x y = refl
-one_choice files [] (q ∷ b) x y = absurd (nothing q (x.cover q.id q (y.stand q (here q b))))
-one_choice files (p ∷ a) [] x y = absurd (nothing p (y.cover p.id p (x.stand p (here p a))))
-one_choice files (p ∷ []) (q ∷ []) x y = ap (λ (r : Part). r ∷ []) (sym (only_one q p (y.cover p.id p (x.stand p (here p [])))))
-one_choice files (p ∷ []) (q ∷ r ∷ b) x y = absurd (let short = y.one in omega arith)
-one_choice files (p ∷ r ∷ a) (q ∷ b) x y = absurd (let short = x.one in omega arith)
-
--- THE FOLD
-
-fold-more : (s : State) (log : List Item) (item : Item) → fold step s (log ++ item ∷ []) ≡ step (fold step s log) item
-fold-more s [] item = refl
-fold-more s (first ∷ log) item = fold-more (step s first) log item
-
-pub folded-more : (log : List Item) (item : Item) → folded (log ++ item ∷ []) ≡ step (folded log) item
-folded-more log item = fold-more start log item
-
-last_from : (s : State) (log : List Item) → (fold step s log).last ≡ s.last + length log
-last_from s [] = omega arith
-last_from s (first ∷ log) = last_from (step s first) log ∙ omega arith
-
--- the last index is the number of items
-pub folded_last : (log : List Item) → (folded log).last ≡ length log
-folded_last log = last_from start log ∙ omega arith
+-- Under this name an image stands for this log: its files hold what is stored of it.
+abbrev pub StandsFor : List ℕ → Image → List Item → Type 0
+StandsFor name image log = Stands (folder name image) (stored log)

@@ -7,10 +7,10 @@ use Rattle.disk_model.specs.View.{View, LeavesOnly}
 use Rattle.segment_files.specs.Folder.{folder, IsFault}
 use Rattle.segment_set.specs.declared.opening.OpenError.{OpenError}
 use Rattle.segment_set.specs.declared.opening.OpenError.TheVariants.{Disk, Damaged, NoMemory}
-use Rattle.log_model.specs.Log.{Item}
+use Rattle.log_model.specs.Admission.{Item}
+use Rattle.host_recovery.specs.Lying.{Lies}
 use Rattle.copycat_tool.specs.Report.{Run}
-use Rattle.copycat_tool.specs.FileLogs.{Lies, LiesAlone, StandsFor}
-use Rattle.copycat_tool.specs.Runs.{Closes, HasPrefix, RanSo, files_of}
+use Rattle.copycat_tool.specs.Runs.{Closes, Files, HasPrefix, IsInOrder, RanSo}
 
 -- THE LINES
 
@@ -41,34 +41,35 @@ pub record ClosesUnopened (name : List ℕ) (error : OpenError) (before : List �
 
 -- A DISK IN ORDER FOR A LOG, from so many items on
 
--- A crash at any moment leaves what it might have left at the start, or else what this says.
+-- A crash at any moment leaves what the one says, or what the other does: what the log was in order for at the start, or what the run made of it.
 abbrev pub OrAsBefore : View → View → (Image → Type 0) → (Image → Type 0) → Type 0
 OrAsBefore old new before P = LeavesOnly old new (λ c. before c ⊎ P c)
 
 -- The log was opened: so many of its items are there, and the script was run over them.
-pub record OpensAndRuns (name : List ℕ) (size : ℕ) (log : List Item) (least : ℕ) (script : List ℕ) (left : Option (List ℕ)) (old new : View) (text : List ℕ) (status : ℕ) (read_failed disk_failed : Type 0) : Type 0 where
+pub record OpensAndRuns (files : Files) (log : List Item) (least : ℕ) (script : List ℕ) (left : Option (List ℕ)) (old new : View) (text : List ℕ) (status : ℕ) (read_failed disk_failed : Type 0) : Type 0 where
   pub run : Run
   pub count : ℕ
   pub enough : least ≤ count
   pub within : count ≤ length log
   pub log_is : run.log ≡ take count log
-  pub lies : Lies name old.reading run.layout
-  pub ran : RanSo (files_of StandsFor LiesAlone name size) run script left (OrAsBefore old new (HasPrefix (StandsFor name) log least)) new text status read_failed disk_failed
+  pub lies : Lies files.name old.reading run.layout
+  pub ran : RanSo files run script left (OrAsBefore old new (HasPrefix files.name log least)) new text status read_failed disk_failed
 
 -- The log couldn't be opened, for want of memory or by a fault of the disk. It is still in order, and nothing was read of the script.
-pub record StaysUnopened (name : List ℕ) (log : List Item) (least : ℕ) (script : List ℕ) (left : Option (List ℕ)) (old new : View) (text : List ℕ) (status : ℕ) (disk_failed : Type 0) : Type 0 where
+pub record StaysUnopened (files : Files) (log : List Item) (least : ℕ) (script : List ℕ) (left : Option (List ℕ)) (old new : View) (text : List ℕ) (status : ℕ) (disk_failed : Type 0) : Type 0 where
   pub told : OpenError
   pub undamaged : (base generation at : ℕ) → told ≡ Damaged base generation at → ⊥
   pub disk_fault : told ≡ Disk → disk_failed
-  pub closes : Closes (unopened_line name told) (unopened_status told) status text
-  pub any_moment : LeavesOnly old new (HasPrefix (StandsFor name) log least)
+  pub closes : Closes (unopened_line files.name told) (unopened_status told) status text
+  pub any_moment : LeavesOnly old new (HasPrefix files.name log least)
+  pub at_exit : IsInOrder files.name new log least
   pub unread : left ≡ Some script
 
--- the one or the other
-abbrev pub RunsInOrder : List ℕ → ℕ → List Item → ℕ → List ℕ → Option (List ℕ) → View → View → List ℕ → ℕ → Type 0 → Type 0 → Type 0
-RunsInOrder name size log least script left old new text status read_failed disk_failed =
-    OpensAndRuns name size log least script left old new text status read_failed disk_failed
-    ⊎ StaysUnopened name log least script left old new text status disk_failed
+-- the one or the other, with what was written
+pub record RunsInOrder (files : Files) (log : List Item) (least : ℕ) (script : List ℕ) (left : Option (List ℕ)) (old new : View) (before : List ℕ) (written : Option (List ℕ)) (status : ℕ) (read_failed disk_failed : Type 0) : Type 0 where
+  pub text : List ℕ
+  pub written_is : written ≡ Some (before ++ text)
+  pub how : OpensAndRuns files log least script left old new text status read_failed disk_failed ⊎ StaysUnopened files log least script left old new text status disk_failed
 
 -- A DAMAGED FOLDER
 
@@ -78,6 +79,11 @@ pub record TellsDamage (name : List ℕ) (old new : View) (before : List ℕ) (w
   pub fault : IsFault (folder name old.reading) id
   pub same : new.reading ≡ old.reading
   pub written_is : written ≡ Some (before ++ damaged_line name id.base id.generation 0)
+
+-- The log couldn't be opened, and that is all that is told.
+pub record TellsUnopened (name : List ℕ) (before : List ℕ) (written : Option (List ℕ)) (status : ℕ) : Type 0 where
+  pub error : OpenError
+  pub closes : ClosesUnopened name error before written status
 
 -- the statuses of a run whose log couldn't be opened
 abbrev pub IsUnopenedStatus : ℕ → Type 0

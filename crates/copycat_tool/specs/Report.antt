@@ -1,20 +1,27 @@
 -- What a run over a script prints and stores, as a function of the log, of how it lies in files, and of the script.
-use Rattle.std.specs.Prelude.{ℕ, ◌+◌, ◌&&◌, nat_lt, nat_le, if◌then◌else◌, List, [], ◌∷◌, ◌++◌, length, take, Option, Some, None, option_to_list, codes}
+use Rattle.std.specs.Prelude.{ℕ, zero, suc, ◌+◌, ◌&&◌, nat_lt, nat_le, if◌then◌else◌, List, [], ◌∷◌, ◌++◌, length, take, Option, Some, None, Result, Ok, Err, codes}
 use Rattle.std.specs.Fmt.{decimal}
 use Rattle.host_types.specs.Limits.{index_limit}
+use Rattle.host_types.specs.declared.entry.Body.{Body}
+use Rattle.host_types.specs.declared.entry.Body.TheVariants as bodies
+use Rattle.host_types.specs.declared.entry.Offer.{Offer}
+use Rattle.host_types.specs.declared.entry.Op.{Op}
 use Rattle.host_types.specs.declared.entry.Refusal.{Refusal}
 use Rattle.host_types.specs.declared.entry.Refusal.TheVariants.{GenEnd}
+use Rattle.host_types.specs.declared.entry.Reply.{Reply}
 use Rattle.script_text.specs.declared.printed.Printed.{Printed}
-use Rattle.script_text.specs.declared.printed.Printed.TheVariants.{Opened, Done as Done_at, Refused as Refuses}
+use Rattle.script_text.specs.declared.printed.Printed.TheVariants as prints
 use Rattle.script_text.specs.Printing.{printed_text}
-use Rattle.log_model.specs.declared.Outcome.{Outcome}
-use Rattle.log_model.specs.declared.Outcome.TheVariants.{Stored, Refused}
-use Rattle.log_model.specs.declared.Ending.{Ending}
-use Rattle.log_model.specs.declared.Ending.TheVariants.{Done, Fault, TooLong, ReadFault, WriteFault, DiskFault, NoMemory}
-use Rattle.log_model.specs.Log.{Item, tick_at, admits, folded}
-use Rattle.log_model.specs.Layout.{Layout, needs_file, with_items}
+use Rattle.log_model.specs.Admission.{Item, Offered, Expired, Admission, Admitted, Repeats, Refused, Expiry, Expires, Nobody, Not_now, admits, expires, first_refusal, refused_if}
+use Rattle.log_model.specs.Commands.{plain_look}
+use Rattle.log_model.specs.Layout.{Layout, alone, needs_file, with_entry}
+use Rattle.log_model.specs.Quiet.{quiet}
+use Rattle.log_model.specs.Step.{folded}
+use Rattle.log_model.specs.Stored.{entry_of}
+use Rattle.copycat_tool.specs.declared.ending.Ending.{Ending}
+use Rattle.copycat_tool.specs.declared.ending.Ending.TheVariants.{Done, Fault, TooLong, ReadFault, WriteFault, DiskFault, NoMemory, Damaged}
 use Rattle.copycat_tool.specs.declared.lines.Command.{Command}
-use Rattle.copycat_tool.specs.declared.lines.Command.TheVariants.{Skip, Tick}
+use Rattle.copycat_tool.specs.declared.lines.Command.TheVariants as commands
 use Rattle.copycat_tool.specs.Script.{lines, line_limit, script_limit, command}
 
 -- what a run stands at: the log, and how it lies in files
@@ -22,39 +29,36 @@ pub record Run : Type 0 where
   pub log : List Item
   pub layout : Layout
 
--- An item that is admitted is stored, unless it needs a new file and no generation is left.
-abbrev pub outcome_of : Layout → ℕ → Option Refusal → Outcome
-outcome_of layout last (Some why) = Refused why
-outcome_of layout last None = if needs_file layout && nat_le index_limit layout.greatest then Refused (GenEnd layout.greatest) else Stored (last + 1)
+-- what an answer changes of it: an item is stored, or the log is opened again
+pub data Change : Type 0 where
+  Nothing : Change
+  Stores : Item → Change
+  Reopens : Change
 
--- how a tick at this time is answered
-unfoldable pub outcome : Run → ℕ → Outcome
-outcome run time = outcome_of run.layout (folded run.log).last (admits (folded run.log) time)
-
--- what is printed of it
-abbrev pub printed_of : Outcome → Printed
-printed_of (Stored index) = Done_at index
-printed_of (Refused why) = Refuses why
-
-abbrev pub stored_item : Outcome → ℕ → Option Item
-stored_item (Stored index) time = Some (tick_at time)
-stored_item (Refused why) time = None
-
--- a printed line, and the item that it acknowledges, if any
+-- a printed line, and what was done before it was printed
 pub record Answer : Type 0 where
   pub text : List ℕ
-  pub item : Option Item
+  pub does : Change
 
-abbrev pub answer : Run → ℕ → Answer
-answer run time = record { text = printed_text (printed_of (outcome run time)); item = stored_item (outcome run time) time }
+-- the run after a change, where a new file has this size; only files that are listed count once the log is opened again
+abbrev pub changed : ℕ → Run → Change → Run
+changed size run Nothing = run
+changed size run (Stores item) = record { log = run.log ++ item ∷ []; layout = with_entry size run.layout }
+changed size run Reopens = record { log = run.log; layout = alone run.layout }
 
-abbrev pub opening : Run → Answer
-opening run = record { text = printed_text (Opened (length run.log)); item = None }
+-- and after these answers
+abbrev pub after : ℕ → Run → List Answer → Run
+after size run [] = run
+after size run (first ∷ rest) = after size (changed size run first.does) rest
+
+abbrev pub items_of : Change → List Item
+items_of (Stores item) = item ∷ []
+items_of _ = []
 
 -- the items that these answers acknowledge
 abbrev pub items : List Answer → List Item
 items [] = []
-items (first ∷ rest) = option_to_list first.item ++ items rest
+items (first ∷ rest) = items_of first.does ++ items rest
 
 abbrev pub print_line : Answer → List ℕ
 print_line line = line.text ++ 10 ∷ []
@@ -63,13 +67,99 @@ abbrev pub printed : List Answer → List ℕ
 printed [] = []
 printed (first ∷ rest) = print_line first ++ printed rest
 
--- the run after these items are stored, where a new file has this size
-abbrev pub with_log : ℕ → Run → List Item → Run
-with_log size run more = record { log = run.log ++ more; layout = with_items size run.layout more }
+-- an answer that changes nothing
+abbrev pub says : Printed → Answer
+says text = record { text = printed_text text; does = Nothing }
 
--- the run after these answers
-abbrev pub after : ℕ → Run → List Answer → Run
-after size run answers = with_log size run (items answers)
+-- ---- what is offered
+
+-- an entry finds a file: there is one, or a generation is left for a new one
+abbrev pub admits_file : Layout → Admission
+admits_file layout = refused_if (needs_file layout && nat_le index_limit layout.greatest) (GenEnd layout.greatest)
+
+-- what is printed of an entry that was stored at this index
+abbrev pub stored_as : ℕ → Body → Printed
+stored_as index (bodies.Register timeout) = prints.Session index
+stored_as index (bodies.Command session seq effect reply) = prints.Replied index reply
+stored_as index _ = prints.Done index
+
+abbrev pub answer_by : Admission → Run → Offer → Answer
+answer_by Admitted run o = record { text = printed_text (stored_as (length run.log + 1) (entry_of (folded run.log) (Offered o)).body); does = Stores (Offered o) }
+answer_by (Repeats reply) run o = says (prints.Repeat reply)
+answer_by (Refused why) run o = says (prints.Refused why)
+
+-- whether an offer is stored: by the log, and then by its files
+abbrev pub admission : Run → Offer → Admission
+admission run o = first_refusal (admits (folded run.log) o ∷ admits_file run.layout ∷ [])
+
+abbrev pub if_filed : Admission → ℕ → Expiry
+if_filed (Refused why) session = Not_now why
+if_filed _ session = Expires session
+
+abbrev pub expiry_in : Layout → Expiry → Expiry
+expiry_in layout (Expires session) = if_filed (admits_file layout) session
+expiry_in layout Nobody = Nobody
+expiry_in layout (Not_now why) = Not_now why
+
+-- who expires at a time: by the log, and then by its files
+abbrev pub expiry : Run → ℕ → Expiry
+expiry run time = expiry_in run.layout (expires (folded run.log) time)
+
+abbrev pub expired_answer : Run → ℕ → ℕ → Answer
+expired_answer run time session = record { text = printed_text (prints.Expired (length run.log + 1) session); does = Stores (Expired time session) }
+
+abbrev pub with_expired : Expiry → Run → ℕ → (Answer → List Answer) → List Answer
+with_expired (Expires session) run time rest = expired_answer run time session ∷ rest (expired_answer run time session)
+with_expired _ run time rest = []
+
+-- the sessions that expire at a time, one after the other, at most so many
+abbrev pub expired : ℕ → ℕ → Run → ℕ → List Answer
+expired size zero run time = []
+expired size (suc n) run time = with_expired (expiry run time) run time (λ this. expired size n (changed size run this.does) time)
+
+-- all of them
+abbrev pub all_expired : ℕ → Run → ℕ → List Answer
+all_expired size run time = expired size (length (folded run.log).sessions) run time
+
+-- Where somebody would expire and can't, that is the answer.
+abbrev pub answer_after : Expiry → Run → Offer → Answer
+answer_after (Not_now why) run o = says (prints.Refused why)
+answer_after _ run o = answer_by (admission run o) run o
+
+abbrev pub offer_answer : Run → Offer → Answer
+offer_answer run o = answer_after (expiry run o.time) run o
+
+-- first whoever is due expires, and then the offer is answered
+abbrev pub offered : ℕ → Run → Offer → List Answer
+offered size run o = all_expired size run o.time ++ offer_answer (after size run (all_expired size run o.time)) o ∷ []
+
+-- ---- the other lines
+
+abbrev pub shown_as : Result Reply Refusal → Printed
+shown_as (Ok reply) = prints.Answer reply
+shown_as (Err why) = prints.Refused why
+
+abbrev pub look_answer : Run → List ℕ → Op → Answer
+look_answer run name op = says (shown_as (plain_look (folded run.log) name op))
+
+abbrev pub quiet_answer : Run → Answer
+quiet_answer run = says (prints.Quiet (quiet run.log))
+
+abbrev pub opening : Run → Answer
+opening run = says (prints.Opened (length run.log))
+
+abbrev pub reopening : Run → Answer
+reopening run = record { text = printed_text (prints.Opened (length run.log)); does = Reopens }
+
+-- the answers to a line
+abbrev pub answers_to : ℕ → Run → Command → List Answer
+answers_to size run commands.Skip = []
+answers_to size run (commands.Offer o) = offered size run o
+answers_to size run (commands.Ask name op) = look_answer run name op ∷ []
+answers_to size run commands.Quiet = quiet_answer run ∷ []
+answers_to size run commands.Reopen = reopening run ∷ []
+
+-- ---- a script
 
 -- why no more of a script comes: it ends, its source fails, or it goes on above the limit
 pub data Cut : Type 0 where
@@ -91,8 +181,7 @@ in_front answers report = record { answers = answers ++ report.answers; ending =
 -- One line, and then the rest. Where it isn't in the grammar, the run ends.
 abbrev pub one : ℕ → Option Command → Run → ℕ → (Run → Report) → Report
 one size None run n rest = ends (Fault n)
-one size (Some Skip) run n rest = rest run
-one size (Some (Tick time)) run n rest = in_front (answer run time ∷ []) (rest (after size run (answer run time ∷ [])))
+one size (Some asked) run n rest = in_front (answers_to size run asked) (rest (after size run (answers_to size run asked)))
 
 -- the piece that no line feed has ended: the last line of a whole script
 abbrev pub last_piece : ℕ → Cut → Run → ℕ → List ℕ → Report
@@ -117,15 +206,24 @@ cut_of script = if nat_le (length script) script_limit then Whole else Above
 abbrev pub full : ℕ → Run → List ℕ → Report
 full size run script = in_front (opening run ∷ []) (report size run 1 (cut_of script) (take script_limit script))
 
--- the line that ends a run, if any
+-- ---- the end
+
+abbrev pub last_text : List ℕ → List Answer
+last_text text = record { text = text; does = Nothing } ∷ []
+
+abbrev pub fault_text : ℕ → List ℕ
+fault_text n = codes "script fault at line " ++ decimal n
+
+-- The line that ends a run, if any. A run whose folder stood for a log doesn't end with a damaged file.
 abbrev pub last_line : Ending → List Answer
 last_line Done = []
-last_line (Fault n) = record { text = codes "script fault at line " ++ decimal n; item = None } ∷ []
-last_line TooLong = record { text = codes "script too long"; item = None } ∷ []
-last_line ReadFault = record { text = codes "read fault"; item = None } ∷ []
+last_line (Fault n) = last_text (fault_text n)
+last_line TooLong = last_text (codes "script too long")
+last_line ReadFault = last_text (codes "read fault")
 last_line WriteFault = []
-last_line DiskFault = record { text = codes "disk fault"; item = None } ∷ []
-last_line NoMemory = record { text = codes "out of memory"; item = None } ∷ []
+last_line DiskFault = last_text (codes "disk fault")
+last_line NoMemory = last_text (codes "out of memory")
+last_line (Damaged base generation at) = []
 
 abbrev pub status_of : Ending → ℕ
 status_of Done = 0
@@ -135,3 +233,4 @@ status_of ReadFault = 4
 status_of WriteFault = 5
 status_of DiskFault = 6
 status_of NoMemory = 8
+status_of (Damaged base generation at) = 7

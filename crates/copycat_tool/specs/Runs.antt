@@ -1,38 +1,37 @@
 -- How a run over a script ends: what it wrote, and what the disk may stand for.
-use Rattle.std.specs.Prelude.{◌≡◌, ◌≢◌, ◌<◌, ◌≤◌, ◌⊎◌, ℕ, ◌+◌, ◌-◌, List, [], ◌∷◌, ◌++◌, length, take, drop, Option, Some, None}
-use Rattle.disk_model.specs.Image.{Place, Image}
+use Rattle.std.specs.Prelude.{◌≡◌, ◌<◌, ◌≤◌, ◌⊎◌, ℕ, ◌+◌, ◌-◌, List, [], ◌∷◌, ◌++◌, length, take, drop, Option, Some, None}
+use Rattle.disk_model.specs.Image.{Image}
 use Rattle.disk_model.specs.View.{View, MayLeave, LeavesOnly}
-use Rattle.log_model.specs.declared.Ending.{Ending}
-use Rattle.log_model.specs.declared.Ending.TheVariants.{Done, Fault, TooLong, ReadFault, WriteFault, DiskFault, NoMemory}
-use Rattle.log_model.specs.Log.{Item}
-use Rattle.log_model.specs.Layout.{Layout, alone}
+use Rattle.segment_set.specs.Fits.{IsEmptyWhereNone}
+use Rattle.log_model.specs.Admission.{Item}
+use Rattle.log_model.specs.Layout.{alone}
+use Rattle.host_recovery.specs.Lying.{LiesAlone}
+use Rattle.copycat_tool.specs.declared.ending.Ending.{Ending}
+use Rattle.copycat_tool.specs.declared.ending.Ending.TheVariants.{Done, Fault, TooLong, ReadFault, WriteFault, DiskFault, NoMemory, Damaged}
 use Rattle.copycat_tool.specs.Script.{script_limit, command}
+use Rattle.copycat_tool.specs.Logs.{IsLog, StandsFor}
 use Rattle.copycat_tool.specs.Report.{Run, Answer, items, one, print_line, printed, after, Report, Broken, report, cut_of, in_front, opening, last_line, status_of}
 
--- files of other names read as before
-abbrev pub KeepsOtherNames : View → View → List ℕ → Type 0
-KeepsOtherNames old new name = (q : Place) → q.name ≢ name → new.reading q ≡ old.reading q
-
--- an image stands for the one log or for the other
-abbrev pub OldOrNew : (Image → List Item → Type 0) → List Item → List Item → Image → Type 0
-OldOrNew stands log log' image = stands image log ⊎ stands image log'
+-- the name of a log's files, and the size of a new one
+pub record Files : Type 0 where
+  pub name : List ℕ
+  pub size : ℕ
 
 -- WHICH LOGS THE IMAGES STAND FOR
 
 -- it stands for a prefix of the log, with at least so many items
-pub record HasPrefix (stands : Image → List Item → Type 0) (log : List Item) (least : ℕ) (image : Image) : Type 0 where
+pub record HasPrefix (name : List ℕ) (log : List Item) (least : ℕ) (image : Image) : Type 0 where
   pub count : ℕ
   pub enough : least ≤ count
   pub within : count ≤ length log
-  pub is : stands image (take count log)
+  pub is : StandsFor name image (take count log)
 
--- whatever a crash leaves now stands for a prefix of the log, with at least so many items
-abbrev pub InOrder : (Image → List Item → Type 0) → View → List Item → ℕ → Type 0
-InOrder stands v log least = (image : Image) → MayLeave v image → HasPrefix stands log least image
-
--- whatever a crash leaves now stands for this log
-abbrev pub IsKept : (Image → List Item → Type 0) → View → List Item → Type 0
-IsKept stands v log = (image : Image) → MayLeave v image → stands image log
+-- A folder is in order for a log, from so many items on: whatever a crash leaves now stands for a prefix of it with at least so
+-- many, and where no file of the name is listed no crash brings one back with entries.
+pub record IsInOrder (name : List ℕ) (v : View) (log : List Item) (least : ℕ) : Type 0 where
+  pub logged : IsLog log
+  pub each : (image : Image) → MayLeave v image → HasPrefix name log least image
+  pub empty : IsEmptyWhereNone v name
 
 -- WHAT WAS WRITTEN
 
@@ -60,6 +59,7 @@ EndsAs ReadFault told whole stored part = IsComplete ReadFault told whole stored
 EndsAs WriteFault told whole stored part = IsPartOfNext told.answers whole part
 EndsAs DiskFault told whole stored part = part ≡ []
 EndsAs NoMemory told whole stored part = part ≡ []
+EndsAs (Damaged base generation at) told whole stored part = ⊥
 
 -- the answers whose items are on the disk for sure
 abbrev pub sure : Ending → ℕ → ℕ → ℕ
@@ -70,6 +70,7 @@ sure (Fault n) whole stored = stored
 sure TooLong whole stored = stored
 sure ReadFault whole stored = stored
 sure WriteFault whole stored = stored
+sure (Damaged base generation at) whole stored = whole
 
 -- a fact for the endings that no call on the disk or the sink brings about
 abbrev pub WhereWhole : Ending → Type 0 → Type 0
@@ -80,15 +81,7 @@ WhereWhole ReadFault fact = fact
 WhereWhole WriteFault fact = Unit {0}
 WhereWhole DiskFault fact = Unit {0}
 WhereWhole NoMemory fact = Unit {0}
-
--- what is said of a log's files under its name: which images stand for which log, how the files lie, and the size of a new one
-pub record Files : Type 1 where
-  pub stands : Image → List Item → Type 0
-  pub lies : Image → Layout → Type 0
-  pub size : ℕ
-
-abbrev pub files_of : (List ℕ → Image → List Item → Type 0) → (List ℕ → Image → Layout → Type 0) → List ℕ → ℕ → Files
-files_of stands lies name size = record { stands = stands name; lies = lies name; size = size }
+WhereWhole (Damaged base generation at) fact = Unit {0}
 
 -- So many answers were written whole, and then a part of the next line. Each was written before the next item was stored.
 -- What a crash left on the way is told by `leaves`.
@@ -102,11 +95,11 @@ pub record EndedSo (files : Files) (run : Run) (told : Report) (leaves : (Image 
   pub one_ahead : stored ≤ whole + 1
   pub ends_as : EndsAs ending told whole stored part
   -- a crash at any moment leaves the log with some of these items, in order
-  pub any_moment : leaves (HasPrefix files.stands (run.log ++ items (take stored told.answers)) (length run.log))
+  pub any_moment : leaves (HasPrefix files.name (run.log ++ items (take stored told.answers)) (length run.log))
   -- and from now on with at least those that are sure
-  pub at_exit : InOrder files.stands new (run.log ++ items (take stored told.answers)) (length (run.log ++ items (take (sure ending whole stored) told.answers)))
+  pub at_exit : IsInOrder files.name new (run.log ++ items (take stored told.answers)) (length (run.log ++ items (take (sure ending whole stored) told.answers)))
   -- the files lie as the report says, with no others beside them
-  pub layout : WhereWhole ending (files.lies new.reading (alone (after files.size run told.answers).layout))
+  pub layout : WhereWhole ending (LiesAlone files.name new.reading (alone (after files.size run told.answers).layout))
 
 -- from an old disk to a new one
 abbrev pub Ended : Files → Run → Report → View → View → List ℕ → Ending → Type 0
@@ -116,7 +109,7 @@ Ended files run told old new text ending = EndedSo files run told (LeavesOnly ol
 pub record AnsweredSo (files : Files) (answers : List Answer) (run run' : Run) (old new : View) (text : List ℕ) : Type 0 where
   pub text_is : text ≡ printed answers
   pub run_is : run' ≡ after files.size run answers
-  pub any_moment : LeavesOnly old new (HasPrefix files.stands run'.log (length run.log))
+  pub any_moment : LeavesOnly old new (HasPrefix files.name run'.log (length run.log))
 
 -- a line was answered, and the run goes on
 pub record Answered (files : Files) (line : List ℕ) (run run' : Run) (old new : View) (text : List ℕ) : Type 0 where
@@ -138,6 +131,7 @@ reported size TooLong run script left = report size run 1 (cut_of script) (take 
 reported size WriteFault run script left = report size run 1 (cut_of script) (take script_limit script)
 reported size DiskFault run script left = report size run 1 (cut_of script) (take script_limit script)
 reported size NoMemory run script left = report size run 1 (cut_of script) (take script_limit script)
+reported size (Damaged base generation at) run script left = report size run 1 (cut_of script) (take script_limit script)
 
 -- with the opening in front
 abbrev pub all_reported : ℕ → Ending → Run → List ℕ → Option (List ℕ) → Report

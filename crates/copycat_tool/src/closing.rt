@@ -1,13 +1,20 @@
 // The end of a run: its last line and its status.
-ghost use Rattle.std.specs.Prelude.{◌≡◌, ◌<◌, ◌≤◌, ◌++◌, ◌⊎◌, ℕ, List, Option, Some, IsTrue};
+ghost use Rattle.std.specs.Prelude.{◌≡◌, ◌<◌, ◌≤◌, ◌++◌, ◌⊎◌, ℕ, List, Option, Some, IsTrue, false};
 ghost use Rattle.script_io.specs.Streams.{Rose};
-ghost use Rattle.copycat_tool.specs.Closing.{ClosesRun, IsRunStatus};
-ghost use Rattle.copycat_tool.specs.Runs.{Closes, KeepsOtherNames, Ran, files_of};
+ghost use Rattle.segment_set.specs.Fits.{KeepsNames};
+ghost use Rattle.copycat_tool.specs.Closing.{ClosesRun, HasClosed, IsRunStatus, IsUndamaged};
+ghost use Rattle.copycat_tool.specs.Report.{Run};
+ghost use Rattle.copycat_tool.specs.Runs.{Closes, Files};
+ghost use Rattle.copycat_tool.specs.Standing.{IsAt};
 
 use crate::answers::answer_script;
-use crate::log::TickLog;
-use crate::texts::last_line_text;
-use log_model::Ending;
+use crate::ending::Ending;
+use crate::texts::fault_line;
+use crate::unopened::put_damaged;
+use disk_model::Disk;
+use host_recovery::Host;
+use host_types::LogName;
+use resource_catalog::Catalog;
 use script_io::{Sink, Source, put_all};
 use std::alloc::Global;
 
@@ -29,18 +36,19 @@ pub(crate) fn put_last<O: Sink>(out: &mut O, line: &[u8], wanted: u8) -> Status
     }
 }
 
-/// Prints the last line of a run that ends so, and answers its status.
-pub fn close_run<O: Sink>(alloc: Global, ending: Ending, out: &mut O) -> Status
-    ensures closes { (before : List ℕ) → O.written out.old ≡ Some before → ClosesRun ending before (O.written out.new) result.0 }
+/// Prints the last line of a run that ends so, over the log of this name, and answers its status.
+pub fn close_run<O: Sink>(alloc: Global, name: &LogName, ending: Ending, out: &mut O) -> Status
+    ensures closes { IsUndamaged ending → (before : List ℕ) → O.written out.old ≡ Some before → ClosesRun ending before (O.written out.new) result.0 }
     ensures read { result.0 ≡ 4 → ending ≡ Ending.ReadFault }
     ensures write { result.0 ≡ 5 → (ending ≡ Ending.WriteFault) ⊎ Rose (O.faults out.old) (O.faults out.new) }
     ensures disk { result.0 ≡ 6 → ending ≡ Ending.DiskFault }
+    ensures damaged { result.0 ≡ 7 → IsUndamaged ending → ⊥ }
     ensures statuses { IsRunStatus result.0 }
     ensures later { O.faults out.old ≤ O.faults out.new }
 {
     match ending {
         Ending::Done => Status(0),
-        Ending::Fault { line } => match last_line_text(alloc, Ending::Fault { line }) {
+        Ending::Fault { line } => match fault_line(alloc, line) {
             Ok(text) => put_last(out, text.as_bytes(), 3),
             Err(_) => put_last(out, b"out of memory\n", 8),
         },
@@ -49,28 +57,34 @@ pub fn close_run<O: Sink>(alloc: Global, ending: Ending, out: &mut O) -> Status
         Ending::WriteFault => Status(5),
         Ending::DiskFault => put_last(out, b"disk fault\n", 6),
         Ending::NoMemory => put_last(out, b"out of memory\n", 8),
+        Ending::Damaged {
+            base,
+            generation,
+            at,
+        } => put_damaged(alloc, name, base, generation, at, out),
     }
 }
 
-/// Runs a script over a log that was opened, to its status.
-pub fn run_script<I: Source, T: TickLog, O: Sink>(
+/// Runs a script over a log of this name that was opened, to its status.
+pub fn run_script<I: Source, D: Disk, O: Sink>(
     alloc: Global,
+    name: &LogName,
     script: &mut I,
-    log: &mut T,
+    host: &mut Host<D, Catalog>,
     out: &mut O,
 ) -> Status
-    requires { T.ready log.old }
-    ensures ran { IsTrue T.tells → T.held log.old → (bytes before : List ℕ) → I.left script.old ≡ Some bytes → O.written out.old ≡ Some before → (text : List ℕ)
-        × (O.written out.new ≡ Some (before ++ text))
-        × Ran (files_of T.stands T.lies (T.name log.old) (T.size log.old)) (T.run log.old) bytes (I.left script.new) (T.view log.old) (T.view log.new) text result.0
-        (Rose (I.faults script.old) (I.faults script.new)) (T.faults log.old < T.faults log.new) }
-    ensures reopens { IsTrue T.tells → T.held log.old → T.reopens (T.name log.old) (T.view log.new) }
-    ensures others { IsTrue T.tells → KeepsOtherNames (T.view log.old) (T.view log.new) (T.name log.old) }
+    requires runs { host.old.stopped ≡ false }
+    ensures ran { IsTrue D.tells → (files : Files) (run : Run) → IsAt D.view files host.old run → (bytes before : List ℕ) → I.left script.old ≡ Some bytes → O.written out.old ≡ Some before
+        → HasClosed files run bytes (I.left script.new) (D.view host.old.disk) (D.view host.new.disk) before (O.written out.new) result.0
+        (Rose (I.faults script.old) (I.faults script.new)) (D.faults host.old.disk < D.faults host.new.disk) }
+    ensures others { IsTrue D.tells → KeepsNames (D.view host.old.disk) (D.view host.new.disk) host.old.parts.name }
+    ensures later { D.faults host.old.disk ≤ D.faults host.new.disk }
     ensures read { result.0 ≡ 4 → Rose (I.faults script.old) (I.faults script.new) }
     ensures write { result.0 ≡ 5 → Rose (O.faults out.old) (O.faults out.new) }
-    ensures disk { result.0 ≡ 6 → T.faults log.old < T.faults log.new }
+    ensures disk { result.0 ≡ 6 → D.faults host.old.disk < D.faults host.new.disk }
+    ensures damaged { result.0 ≡ 7 → IsTrue D.tells → ⊥ }
     ensures statuses { IsRunStatus result.0 }
 {
-    let ending = answer_script(alloc, script, log, out);
-    close_run(alloc, ending, out)
+    let ending = answer_script(alloc, script, host, out);
+    close_run(alloc, name, ending, out)
 }

@@ -2,14 +2,18 @@
 #![tactic(auto)]
 
 mod answers;
+mod calls;
+mod catalog;
 mod closing;
-mod file_log;
+mod ending;
 mod held;
+#[cfg(test)]
+mod host_tests;
 mod lines;
-mod log;
-mod opening;
 mod program;
 mod reader;
+#[cfg(test)]
+mod session_tests;
 #[cfg(test)]
 mod tests;
 mod texts;
@@ -17,10 +21,6 @@ mod turns;
 mod unopened;
 mod words;
 
-pub use answers::answer_script;
-pub use closing::{Status, close_run, run_script};
-pub use file_log::FileLog;
-pub use log::TickLog;
-pub use opening::{Start, open_log};
+pub use closing::Status;
 pub use program::run;
 pub use words::{Asked, USAGE, read_words};

@@ -1,9 +1,11 @@
 // What a line of a script asks of the program.
-ghost use Rattle.std.specs.Prelude.{◌≡◌, Some, None, IfOk};
-ghost use Rattle.copycat_tool.specs.Script.{command, if_line};
+ghost use Rattle.std.specs.Prelude.{◌≡◌, Some, None, IfOk, IfSome};
+ghost use Rattle.copycat_tool.specs.Script.{IsFit, command, command_of, if_line, is_built_ask};
+ghost use Rattle.script_text.specs.Lines.{IsAllowed};
 ghost use Rattle.script_text.specs.Reading.{line_read};
 
-use host_types::{Ask, NoMemory, Offer, Time};
+use host_types::{Ask, Key, NoMemory, Offer, Op};
+use resource_catalog::is_built;
 use script_text::{Line, LineFault, read_line};
 use std::alloc::Global;
 
@@ -11,26 +13,51 @@ use std::alloc::Global;
 pub const LINE_LIMIT: usize = 16384;
 
 /// What a line asks.
-#[derive(Clone, Copy, Debug, PartialEq, Eq)]
+#[derive(Debug, PartialEq, Eq, Drop)]
 pub enum Command {
     /// Nothing: it is empty, or a comment.
     Skip,
-    /// To store a tick at this time.
-    Tick { time: Time },
+    /// To store this, once whoever is due at its time has expired.
+    Offer(Offer),
+    /// What a looking operation shows of the resource of this name.
+    Ask { name: Key, op: Op },
+    /// The index up to which nobody waits for a reply or an event.
+    Quiet,
+    /// To close the log and open it again.
+    Reopen,
+}
+
+/// It creates nothing of a kind that isn't built.
+fn asks_for_built(ask: &Ask) -> bool
+    ensures { result ≡ is_built_ask ask.now }
+{
+    match ask {
+        Ask::Command {
+            op: Op::Create { kind },
+            ..
+        } => is_built(*kind),
+        _ => true,
+    }
 }
 
 /// The command of a line of the language, if it is built.
-fn command_of(line: &Line) -> Option<Command>
-    ensures { result ≡ if_line (Some line.now) }
+fn command_of(line: Line) -> Option<Command>
+    requires allowed { IsAllowed line }
+    ensures found { result ≡ command_of line }
+    ensures fit { IfSome result IsFit }
 {
     match line {
         Line::Skip => Some(Command::Skip),
-        Line::Offer(
-            Offer {
-                time,
-                ask: Ask::Tick,
-            },
-        ) => Some(Command::Tick { time: *time }),
+        Line::Offer(offer) => {
+            if asks_for_built(&offer.ask) {
+                Some(Command::Offer(offer))
+            } else {
+                None
+            }
+        }
+        Line::Ask { name, op } => Some(Command::Ask { name, op }),
+        Line::Quiet => Some(Command::Quiet),
+        Line::Reopen => Some(Command::Reopen),
         _ => None,
     }
 }
@@ -38,13 +65,14 @@ fn command_of(line: &Line) -> Option<Command>
 /// What a line of a script asks, if it is in the grammar (`docs/script.md`) and its command is built.
 #[tactic(auto, unfolding(crate::specs::Script::command))]
 pub fn read_command(alloc: Global, line: &[u8]) -> Result<Option<Command>, NoMemory>
-    ensures { IfOk result (λ found. found ≡ command line.now) }
+    ensures found { IfOk result (λ found. found ≡ command line.now) }
+    ensures fit { IfOk result (λ found. IfSome found IsFit) }
 {
     if line.len() > LINE_LIMIT {
         return Ok(None);
     }
     match read_line(alloc, line) {
-        Ok(line) => Ok(command_of(&line)),
+        Ok(line) => Ok(command_of(line)),
         Err(LineFault::Bad) => Ok(None),
         Err(LineFault::NoMemory) => Err(NoMemory),
     }

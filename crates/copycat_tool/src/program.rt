@@ -1,23 +1,23 @@
 // The program: its words, the log that they name, and the script.
-ghost use Rattle.std.specs.Prelude.{◌≡◌, ◌<◌, ◌≤◌, ◌++◌, ◌⊎◌, ℕ, List, Option, Some, None, IsTrue, map};
+ghost use Rattle.std.specs.Prelude.{◌≡◌, ◌<◌, ◌≤◌, ◌++◌, ◌⊎◌, ℕ, List, None, Some, IsTrue, map};
 ghost use Rattle.script_io.specs.Streams.{Rose};
 ghost use Rattle.disk_model.specs.declared.file_id.FileId.{FileId};
 ghost use Rattle.disk_model.specs.View.{LeavesAt, MayHold};
 ghost use Rattle.segment_files.specs.Folder.{folder, IsFault};
-ghost use Rattle.segment_set.specs.Fits.{IsEmptyWhereNone};
-ghost use Rattle.log_model.specs.Log.{Item};
+ghost use Rattle.segment_set.specs.Fits.{IsEmptyWhereNone, KeepsNames};
+ghost use Rattle.log_model.specs.Admission.{Item};
 ghost use Rattle.copycat_tool.specs.Words.{asks, asked_of};
-ghost use Rattle.copycat_tool.specs.Runs.{Closes, InOrder, KeepsOtherNames};
-ghost use Rattle.copycat_tool.specs.FileLogs.{StandsFor};
-ghost use Rattle.copycat_tool.specs.Programs.{IsStatus, RunsInOrder, TellsDamage, usage_line};
+ghost use Rattle.copycat_tool.specs.Runs.{Closes, IsInOrder};
+ghost use Rattle.copycat_tool.specs.Programs.{IsStatus, RunsInOrder, TellsDamage, TellsUnopened, usage_line};
 
+use crate::catalog::catalog_suits;
 use crate::closing::{Status, put_last, run_script};
-use crate::file_log::FileLog;
-use crate::opening::open_log;
 use crate::unopened::close_unopened;
 use crate::words::{USAGE, read_words};
 use disk_model::Disk;
+use host_recovery::Host;
 use host_types::LogName;
+use resource_catalog::{Catalog, logs_of_catalogs_are_plain};
 use script_io::{Sink, Source};
 use std::alloc::Global;
 
@@ -32,47 +32,32 @@ fn run_log<I: Source, D: Disk, O: Sink>(
 ) -> (Status, D)
     requires least { 2 ≤ size }
     requires most { size ≤ 65536 }
-    ensures ran { IsTrue D.tells → (bytes before : List ℕ) → I.left script.old ≡ Some bytes → O.written out.old ≡ Some before
-        → (log : List Item) (least : ℕ) → InOrder (StandsFor name.now) (D.view disk) log least → IsEmptyWhereNone (D.view disk) name.now → (text : List ℕ)
-        × (O.written out.new ≡ Some (before ++ text))
-        × RunsInOrder name.now size log least bytes (I.left script.new) (D.view disk) (D.view result.1) text result.0.0
+    ensures ran { IsTrue D.tells → (log : List Item) (least : ℕ) → IsInOrder name.now (D.view disk) log least → (bytes before : List ℕ) → I.left script.old ≡ Some bytes → O.written out.old ≡ Some before
+        → RunsInOrder (record { name = name.now; size = size }) log least bytes (I.left script.new) (D.view disk) (D.view result.1) before (O.written out.new) result.0.0
         (Rose (I.faults script.old) (I.faults script.new)) (D.faults disk < D.faults result.1) }
-    ensures empty { IsTrue D.tells → IsEmptyWhereNone (D.view disk) name.now → IsEmptyWhereNone (D.view result.1) name.now }
     ensures damaged { result.0.0 ≡ 7 → IsTrue D.tells → (before : List ℕ) → O.written out.old ≡ Some before
         → TellsDamage name.now (D.view disk) (D.view result.1) before (O.written out.new) }
     ensures damage_told { IsTrue D.tells → (id : FileId) → IsFault (folder name.now (D.view disk).reading) id → (result.0.0 ≡ 7) ⊎ (result.0.0 ≡ 5) ⊎ (result.0.0 ≡ 6) ⊎ (result.0.0 ≡ 8) }
+    ensures unopened { IsTrue D.tells → (id : FileId) → IsFault (folder name.now (D.view disk).reading) id
+        → (script.new ≡ script.old) × ((before : List ℕ) → O.written out.old ≡ Some before → TellsUnopened name.now before (O.written out.new) result.0.0) }
     ensures unharmed { IsTrue D.tells → (id : FileId) → IsFault (folder name.now (D.view disk).reading) id
         → ((D.view result.1).reading ≡ (D.view disk).reading) × LeavesAt (D.view disk) (D.view result.1) (MayHold (D.view disk)) }
-    ensures others { IsTrue D.tells → KeepsOtherNames (D.view disk) (D.view result.1) name.now }
+    ensures others { IsTrue D.tells → KeepsNames (D.view disk) (D.view result.1) name.now }
     ensures read { result.0.0 ≡ 4 → Rose (I.faults script.old) (I.faults script.new) }
     ensures write { result.0.0 ≡ 5 → Rose (O.faults out.old) (O.faults out.new) }
     ensures disk { result.0.0 ≡ 6 → D.faults disk < D.faults result.1 }
     ensures no_usage { result.0.0 ≡ 2 → ⊥ }
     ensures statuses { IsStatus result.0.0 }
 {
-    let mut disk = disk;
-    match open_log(alloc, &mut disk, name) {
-        Ok(start) => {
-            let mut log = FileLog {
-                disk,
-                parts: start.parts,
-                time: start.time,
-                size,
-                frame: Vec::new(alloc),
-                places: Vec::new(alloc),
-            };
-            let status = run_script(alloc, script, &mut log, out);
-            let FileLog {
-                disk,
-                frame,
-                places,
-                ..
-            } = log;
-            drop(frame);
-            drop(places);
-            (status, disk)
+    catalog_suits();
+    logs_of_catalogs_are_plain();
+    match Host::open(alloc, disk, Catalog::new(alloc), name, size) {
+        Ok(mut host) => {
+            host.keeps();
+            let status = run_script(alloc, name, script, &mut host, out);
+            (status, host.close())
         }
-        Err(error) => (close_unopened(alloc, name, error, out), disk),
+        Err((disk, error)) => (close_unopened(alloc, name, error, out), disk),
     }
 }
 
@@ -91,25 +76,25 @@ pub fn run<I: Source, D: Disk, O: Sink>(
     ensures usage_only { result.0.0 ≡ 2 → asked_of (map (λ w. w.items) words.now) ≡ None }
     ensures untouched { asked_of (map (λ w. w.items) words.now) ≡ None → (result.1 ≡ disk) × (script.new ≡ script.old) }
 
-    // A folder that stands for a log, whatever a crash leaves of it: what is printed, and what the files stand for then.
-    ensures ran { IsTrue D.tells → (name bytes before : List ℕ) (size : ℕ) → asked_of (map (λ w. w.items) words.now) ≡ Some (asks name size) → I.left script.old ≡ Some bytes → O.written out.old ≡ Some before
-        → (log : List Item) (least : ℕ) → InOrder (StandsFor name) (D.view disk) log least → IsEmptyWhereNone (D.view disk) name → (text : List ℕ)
-        × (O.written out.new ≡ Some (before ++ text))
-        × RunsInOrder name size log least bytes (I.left script.new) (D.view disk) (D.view result.1) text result.0.0
+    // A folder that is in order for a log, whatever a crash leaves of it: what is printed, what the files stand for while it runs, and
+    // for which log the folder is in order then.
+    ensures ran { IsTrue D.tells → (name : List ℕ) (size : ℕ) → asked_of (map (λ w. w.items) words.now) ≡ Some (asks name size)
+        → (log : List Item) (least : ℕ) → IsInOrder name (D.view disk) log least → (bytes before : List ℕ) → I.left script.old ≡ Some bytes → O.written out.old ≡ Some before
+        → RunsInOrder (record { name = name; size = size }) log least bytes (I.left script.new) (D.view disk) (D.view result.1) before (O.written out.new) result.0.0
         (Rose (I.faults script.old) (I.faults script.new)) (D.faults disk < D.faults result.1) }
 
-    // Where no file of the name is listed at the end, no crash brings one back: so the folder is in order for the next run.
-    ensures empty { IsTrue D.tells → (name : List ℕ) (size : ℕ) → asked_of (map (λ w. w.items) words.now) ≡ Some (asks name size) → IsEmptyWhereNone (D.view disk) name → IsEmptyWhereNone (D.view result.1) name }
-
-    // A folder that isn't right is told as such, or some other status has its cause; it is left as it is, whatever a crash leaves.
+    // A folder that isn't right is told as such, or some other status has its cause, and nothing else is told; it is left as it is,
+    // whatever a crash leaves.
     ensures damaged { result.0.0 ≡ 7 → IsTrue D.tells → (name before : List ℕ) (size : ℕ) → asked_of (map (λ w. w.items) words.now) ≡ Some (asks name size) → O.written out.old ≡ Some before
         → TellsDamage name (D.view disk) (D.view result.1) before (O.written out.new) }
     ensures damage_told { IsTrue D.tells → (name : List ℕ) (size : ℕ) (id : FileId) → asked_of (map (λ w. w.items) words.now) ≡ Some (asks name size) → IsFault (folder name (D.view disk).reading) id
         → (result.0.0 ≡ 7) ⊎ (result.0.0 ≡ 5) ⊎ (result.0.0 ≡ 6) ⊎ (result.0.0 ≡ 8) }
+    ensures unopened { IsTrue D.tells → (name : List ℕ) (size : ℕ) (id : FileId) → asked_of (map (λ w. w.items) words.now) ≡ Some (asks name size) → IsFault (folder name (D.view disk).reading) id
+        → (script.new ≡ script.old) × ((before : List ℕ) → O.written out.old ≡ Some before → TellsUnopened name before (O.written out.new) result.0.0) }
     ensures unharmed { IsTrue D.tells → (name : List ℕ) (size : ℕ) (id : FileId) → asked_of (map (λ w. w.items) words.now) ≡ Some (asks name size) → IsFault (folder name (D.view disk).reading) id
         → ((D.view result.1).reading ≡ (D.view disk).reading) × LeavesAt (D.view disk) (D.view result.1) (MayHold (D.view disk)) }
 
-    ensures others { IsTrue D.tells → (name : List ℕ) (size : ℕ) → asked_of (map (λ w. w.items) words.now) ≡ Some (asks name size) → KeepsOtherNames (D.view disk) (D.view result.1) name }
+    ensures others { IsTrue D.tells → (name : List ℕ) (size : ℕ) → asked_of (map (λ w. w.items) words.now) ≡ Some (asks name size) → KeepsNames (D.view disk) (D.view result.1) name }
 
     // A fault is told only of what has failed.
     ensures read { result.0.0 ≡ 4 → Rose (I.faults script.old) (I.faults script.new) }

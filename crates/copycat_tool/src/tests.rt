@@ -2,14 +2,11 @@
 ghost use Rattle.std.specs.Prelude.{◌≡◌, None};
 ghost use Rattle.disk_model.specs.Image.{IsFileId};
 
-use crate::{FileLog, TickLog, USAGE, run};
-use disk_files::FileDisk;
+use crate::{USAGE, run};
 use disk_memory::{MemoryDisk, Outcome, SureDisk};
 use disk_model::{Disk, DiskFault, FileId};
-use host_types::{LogName, Refusal};
-use log_model::Outcome as Answer;
+use host_types::LogName;
 use script_io::{Failed, MemorySink, MemorySource, Source, SureSource};
-use segment_set::{Parts, Tail};
 use std::alloc::{AllocError, Global};
 use std::process::Abort;
 use std::test::Fail;
@@ -103,7 +100,7 @@ fn holds<D: Disk>(
     Ok(())
 }
 
-fn words(alloc: Global, texts: &[&str]) -> Result<Vec<Vec<u8>>, AllocError> {
+pub fn words(alloc: Global, texts: &[&str]) -> Result<Vec<Vec<u8>>, AllocError> {
     let mut words = Vec::new(alloc);
     for text in texts {
         words.push(text.as_bytes().to_vec(alloc)?)?;
@@ -112,7 +109,7 @@ fn words(alloc: Global, texts: &[&str]) -> Result<Vec<Vec<u8>>, AllocError> {
 }
 
 /// Runs `run db`, and asserts what is printed and answered. The disk is given back.
-fn runs<I: Source, D: Disk + Drop>(
+pub fn runs<I: Source, D: Disk + Drop>(
     rt: &impl Abort,
     alloc: Global,
     script: &mut I,
@@ -326,7 +323,7 @@ fn a_frame_has_1_to_64_ticks(rt: HostRuntime) -> Result<(), Fail> {
         (ticks(alloc, 0)?, damaged, 7),
         (cut, damaged, 7),
         (unbuilt, damaged, 7),
-        (longest(alloc)?, damaged, 7),
+        (longest(alloc)?, "open 1\n", 0),
     ];
     for (body, text, status) in &table {
         let mut disk = SureDisk::new(alloc);
@@ -367,22 +364,24 @@ fn lines_are_answered_to_the_first_fault(rt: HostRuntime) -> Result<(), Fail> {
         (" #\n", 0, "", "script fault at line 1\n", 3),
         ("\n#\n\ntick\n", 0, "", "script fault at line 4\n", 3),
         // Lines of the language that the program doesn't do yet.
-        ("register 0 100\n", 0, "", "script fault at line 1\n", 3),
         (
-            "do 1 1 1 create m map",
+            "register 0 9\ndo 1 1 1 create m map",
             0,
             "",
-            "script fault at line 1\n",
+            "1 session 1\nscript fault at line 2\n",
             3,
         ),
         (
-            "tick 1\nquiet\n",
+            "tick 1\ncensus\n",
             0,
             "",
             "1 ok\nscript fault at line 2\n",
             3,
         ),
-        ("census\n", 0, "", "script fault at line 1\n", 3),
+        ("take 1\n", 0, "", "script fault at line 1\n", 3),
+        ("global 0\n", 0, "", "script fault at line 1\n", 3),
+        ("minor 1\n", 0, "", "script fault at line 1\n", 3),
+        ("major 1 2\n", 0, "", "script fault at line 1\n", 3),
         (
             "tick 18446744073709551616\n",
             0,
@@ -643,38 +642,6 @@ fn a_script_may_be_too_long(rt: HostRuntime) -> Result<(), Fail> {
         let (ended, _) = run(alloc, &words, &mut script, SureDisk::new(alloc), &mut out);
         assert_eq!(rt; ended.0, status);
         assert!(rt; out.bytes().ends_with(last.as_bytes()));
-    }
-    Ok(())
-}
-
-/// A log with its last index. Its file would have 94 GB, so the disk is one that tells nothing, and no call of it is made.
-#[test]
-fn the_last_index_is_the_end(rt: HostRuntime) -> Result<(), Fail> {
-    let alloc = rt.alloc();
-    let tail = Tail {
-        id: FileId {
-            base: 1,
-            generation: 1,
-        },
-        last: 4294967295,
-        gate: 64,
-        size: 1024,
-    };
-    let mut log = FileLog {
-        disk: FileDisk::new(&rt),
-        parts: Parts {
-            name: LogName::new(b"db").expect(&rt, "a name"),
-            tail: Some(tail),
-            greatest: 1,
-        },
-        time: 5,
-        size: 1024,
-        frame: Vec::new(alloc),
-        places: Vec::new(alloc),
-    };
-    let table = [(4, Refusal::Time { now: 5 }), (5, Refusal::LogEnd)];
-    for (time, why) in table {
-        assert_eq!(rt; log.offer(alloc, time), Ok(Answer::Refused { why }));
     }
     Ok(())
 }

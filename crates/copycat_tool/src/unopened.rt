@@ -1,5 +1,5 @@
 // The end of a run whose log couldn't be opened.
-ghost use Rattle.std.specs.Prelude.{◌≡◌, ◌≤◌, ℕ, List, Some, IfOk};
+ghost use Rattle.std.specs.Prelude.{◌≡◌, ◌≤◌, ◌⊎◌, ℕ, List, Some, IfOk};
 ghost use Rattle.script_io.specs.Streams.{Rose};
 ghost use Rattle.copycat_tool.specs.Programs.{ClosesUnopened, IsUnopenedStatus, damaged_line};
 
@@ -27,6 +27,26 @@ fn damaged_text(
     Ok(text)
 }
 
+/// Prints the line of a file that isn't right.
+pub fn put_damaged<O: Sink>(
+    alloc: Global,
+    name: &LogName,
+    base: u64,
+    generation: u64,
+    at: u64,
+    out: &mut O,
+) -> Status
+    ensures closes { (before : List ℕ) → O.written out.old ≡ Some before → ClosesUnopened name.now (OpenError.Damaged base generation at) before (O.written out.new) result.0 }
+    ensures write { result.0 ≡ 5 → Rose (O.faults out.old) (O.faults out.new) }
+    ensures statuses { (result.0 ≡ 7) ⊎ (result.0 ≡ 8) ⊎ (result.0 ≡ 5) }
+    ensures later { O.faults out.old ≤ O.faults out.new }
+{
+    match damaged_text(alloc, name, base, generation, at) {
+        Ok(text) => put_last(out, &text, 7),
+        Err(_) => put_last(out, b"out of memory\n", 8),
+    }
+}
+
 /// Prints why a log couldn't be opened, and answers the status.
 pub fn close_unopened<O: Sink>(
     alloc: Global,
@@ -47,10 +67,7 @@ pub fn close_unopened<O: Sink>(
             base,
             generation,
             at,
-        } => match damaged_text(alloc, name, base, generation, at) {
-            Ok(text) => put_last(out, &text, 7),
-            Err(_) => put_last(out, b"out of memory\n", 8),
-        },
+        } => put_damaged(alloc, name, base, generation, at, out),
         OpenError::NoMemory => put_last(out, b"out of memory\n", 8),
     }
 }

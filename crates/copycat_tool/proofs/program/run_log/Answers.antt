@@ -1,70 +1,86 @@
-use Rattle.std.proofs.Common.{◌≡◌, ◌<◌, ℕ, List, inl, inr, ⊎_elim, sym, ap, subst, ◌∙◌, Err, arith}
+use Rattle.std.proofs.Common.{◌≡◌, ◌<◌, ℕ, inl, inr, take, ⊎_elim, refl, sym, ap, subst, ◌∙◌, Err, arith}
 use Rattle.script_io.specs.Streams.{Rose}
 use Rattle.segment_set.specs.declared.opening.OpenError.TheVariants.{Damaged}
-use Rattle.segment_set.specs.Fits.{IsEmptyWhereNone, IsHeld}
-use Rattle.copycat_tool.specs.FileLogs.{LiesAlone, StandsFor, shown}
-use Rattle.copycat_tool.specs.Runs.{HasPrefix, Ran, files_of}
-use Rattle.copycat_tool.proofs.ProgramLemmas.{to_entries, left_items, opens_prefix, lies_at_start, opened_no_fault, in_order_no_fault, runs_from_start, damage_written}
 use Rattle.segment_set.specs.Opening.{id_from}
+use Rattle.host_recovery.specs.Standing.{layout_in}
+use Rattle.copycat_tool.specs.Programs.{RunsInOrder}
+use Rattle.copycat_tool.specs.Report.{Run}
+use Rattle.copycat_tool.specs.Runs.{Files, HasPrefix}
+use Rattle.copycat_tool.specs.Standing.{IsAt}
+use Rattle.copycat_tool.proofs.CallLemmas.{Keeps, is_at}
+use Rattle.copycat_tool.proofs.LogLemmas.{logged_front}
+use Rattle.copycat_tool.proofs.ProgramLemmas.{damage_written, in_order_no_fault, left_plain, runs_from_start, still_in_order, to_hosted}
 use Rattle.copycat_tool.proofs.program.run_log.Goals as goal
 
 pub returns-in-Ok-clause-ran : goal.returns-in-Ok-clause-ran
-returns-in-Ok-clause-ran g c = λ t bytes before left was log least order empty.
-    let v = g.D.Disk.view c.args.disk in
-    let m = g.D.Disk.view c.open_log.new.disk in
-    let w = g.D.Disk.view c.run_script-status.new.log.disk in
+returns-in-Ok-clause-ran g c = λ t log least order bytes before left was.
+    let law = c.logs_of_catalogs_are_plain.ensures in
     let name = c.args.name.now in
-    let tail = c.in-Ok.start.parts.tail in
-    let greatest = c.in-Ok.start.parts.greatest in
-    let left_opening = c.open_log.ensures.any_moment t log least (to_entries v name log least order) in
-    let prefix = opens_prefix v m name tail greatest log least (g.met.D.Disk.sound c.open_log.new.disk t) (c.in-Ok.ensures.ready t).fits left_opening in
-    let held = subst (λ (n : List ℕ). IsHeld m n tail) (sym c.in-Ok.ensures.name) (c.in-Ok.ensures.held t empty) in
-    let ran = c.run_script-status.ensures.ran t held bytes before left was in
-    let ran_named = subst (λ (n : List ℕ). Ran (files_of StandsFor LiesAlone n c.args.size) (shown m n tail greatest) bytes (g.I.Source.left c.run_script-status.new.script) m w ran.0 c.run_script-status.result.0
-    (Rose (g.I.Source.faults c.args.script.now) (g.I.Source.faults c.run_script-status.new.script)) (g.D.Disk.faults c.open_log.new.disk < g.D.Disk.faults c.run_script-status.new.log.disk)) c.in-Ok.ensures.name ran.2 in (
-      ran.0,
-      ran.1,
-      inl (record {
-        run = shown m name tail greatest;
-        count = prefix.count;
-        enough = prefix.enough;
-        within = prefix.within;
-        log_is = prefix.is;
-        lies = lies_at_start v m name tail greatest (c.in-Ok.ensures.choice t) (c.in-Ok.ensures.greatest t);
-        ran = runs_from_start (files_of StandsFor LiesAlone name c.args.size) (shown m name tail greatest) bytes (g.I.Source.left c.run_script-status.new.script) v m w (HasPrefix (StandsFor name) log least) ran.0 c.run_script-status.result.0
-            (Rose (g.I.Source.faults c.args.script.now) (g.I.Source.faults c.run_script-status.new.script)) (g.D.Disk.faults c.open_log.new.disk < g.D.Disk.faults c.run_script-status.new.log.disk) (g.D.Disk.faults c.args.disk < g.D.Disk.faults c.run_script-status.new.log.disk)
-            (left_items v m name log least left_opening) (λ rose. omega (arith, rose, c.open_log.ensures.cause.later)) ran_named;
-      }),
-    )
+    let files : Files = record { name = name; size = c.args.size } in
+    let h = c.in-Ok.host in
+    let v = g.D.Disk.view c.args.disk in
+    let m = g.D.Disk.view h.disk in
+    let hosted = to_hosted law name log least order.logged v order in
+    let o = c.in-Ok.ensures.stands t log least hosted in
+    let run : Run = record { log = take o.count log; layout = layout_in m h.parts } in
+    let keeps : Keeps g.D.Disk.view h = record { images = c.keeps.ensures.images t; empty = c.keeps.ensures.empty t; last = c.keeps.ensures.last; layout = c.keeps.ensures.layout t; file = c.keeps.ensures.file t } in
+    let at : IsAt g.D.Disk.view files h run = is_at law g.D.Disk.view files h keeps (g.met.D.Disk.sound h.disk t) run c.in-Ok.ensures.name.0 c.in-Ok.ensures.name.1 o.stands (logged_front o.count log order.logged) refl in
+    let opening = left_plain law name log least order.logged v m (c.in-Ok.ensures.any_moment t log least hosted) in
+    let P : g.row.D.Denot → Type 0 = λ d. RunsInOrder files log least bytes (g.I.Source.left c.run_script-status.new.script) v (g.D.Disk.view d) before (g.O.Sink.written c.run_script-status.new.out) c.run_script-status.result.0
+    (Rose (g.I.Source.faults c.args.script.now) (g.I.Source.faults c.run_script-status.new.script)) (g.D.Disk.faults c.args.disk < g.D.Disk.faults d) in
+    let closed = c.run_script-status.ensures.ran t files run at bytes before left was in
+    subst P (sym c.close.ensures)
+    (record {
+      text = closed.text;
+      written_is = closed.written_is;
+      how = inl (record {
+        run = run;
+        count = o.count;
+        enough = o.enough;
+        within = o.within;
+        log_is = refl;
+        lies = c.in-Ok.ensures.lies t;
+        ran = runs_from_start files run bytes (g.I.Source.left c.run_script-status.new.script) v m (g.D.Disk.view c.run_script-status.new.host.disk) (HasPrefix name log least) closed.text c.run_script-status.result.0
+            (Rose (g.I.Source.faults c.args.script.now) (g.I.Source.faults c.run_script-status.new.script)) (g.D.Disk.faults h.disk < g.D.Disk.faults c.run_script-status.new.host.disk) (g.D.Disk.faults c.args.disk < g.D.Disk.faults c.run_script-status.new.host.disk)
+            opening (λ rose. omega (arith, rose, c.in-Ok.ensures.cause.later)) closed.ran;
+      });
+    })
 
 pub returns-in-Ok-clause-damage_told : goal.returns-in-Ok-clause-damage_told
-returns-in-Ok-clause-damage_told g c = λ t id fault.
-    absurd (opened_no_fault (g.D.Disk.view c.args.disk) (g.D.Disk.view c.open_log.new.disk) c.args.name.now c.in-Ok.start.parts.tail c.in-Ok.start.parts.greatest id (c.in-Ok.ensures.ready t).fits (c.in-Ok.ensures.choice t) fault)
+returns-in-Ok-clause-damage_told g c = λ t id fault. absurd (c.in-Ok.ensures.faultless t id fault)
+
+pub returns-in-Ok-clause-unharmed : goal.returns-in-Ok-clause-unharmed
+returns-in-Ok-clause-unharmed g c = λ t id fault. absurd (c.in-Ok.ensures.faultless t id fault)
 
 pub returns-in-Err-clause-ran : goal.returns-in-Err-clause-ran
-returns-in-Err-clause-ran g c = λ t bytes before left was log least order empty.
-    let v = g.D.Disk.view c.args.disk in
-    let m = g.D.Disk.view c.open_log.new.disk in
+returns-in-Err-clause-ran g c = λ t log least order bytes before left was.
+    let law = c.logs_of_catalogs_are_plain.ensures in
     let name = c.args.name.now in
+    let v = g.D.Disk.view c.args.disk in
+    let w = g.D.Disk.view c.in-Err.disk in
+    let hosted = to_hosted law name log least order.logged v order in
+    let moments = left_plain law name log least order.logged v w (c.in-Err.ensures.any_moment t log least hosted) in
     let closed = c.close_unopened.ensures.closes before was in
     let damage : (base generation at : ℕ) → c.in-Err.error ≡ Damaged base generation at → ⊥ =
-    λ base generation at is. in_order_no_fault v name log least _ (g.met.D.Disk.sound c.args.disk t) order ((c.open_log.ensures.damaged base generation at (c.in-Err.is ∙ ap Err is)).1 t).0 in (
-      closed.text,
-      closed.written_is,
-      inr (record {
+    λ base generation at is. in_order_no_fault v name log least _ (g.met.D.Disk.sound c.args.disk t) order ((c.in-Err.ensures.damaged base generation at (ap Err is)).1 t).0 in
+    record {
+      text = closed.text;
+      written_is = closed.written_is;
+      how = inr (record {
         told = closed.told;
         undamaged = λ base generation at is. ⊎_elim (λ same. damage base generation at (sym same ∙ is)) (λ none. cc (none, is)) closed.why;
-        disk_fault = λ is. ⊎_elim (λ same. c.open_log.ensures.cause.failed (c.in-Err.is ∙ ap Err (sym same ∙ is))) (λ none. absurd (cc (none, is))) closed.why;
+        disk_fault = λ is. ⊎_elim (λ same. c.in-Err.ensures.cause.failed (ap Err (sym same ∙ is))) (λ none. absurd (cc (none, is))) closed.why;
         closes = closed.closes;
-        any_moment = left_items v m name log least (c.open_log.ensures.any_moment t log least (to_entries v name log least order));
+        any_moment = moments;
+        at_exit = still_in_order law name log least order.logged v w (g.met.D.Disk.sound c.in-Err.disk t) moments (c.in-Err.ensures.empty t order.empty);
         unread = left;
-      }),
-    )
+      });
+    }
 
 pub returns-in-Err-clause-damaged : goal.returns-in-Err-clause-damaged
 returns-in-Err-clause-damaged g c = λ seven t before was.
     let damage = c.close_unopened.ensures.damaged seven in
-    let fault = c.open_log.ensures.damaged damage.0 damage.1 damage.2 (c.in-Err.is ∙ ap Err damage.3) in
+    let fault = c.in-Err.ensures.damaged damage.0 damage.1 damage.2 (ap Err damage.3) in
     record {
       id = id_from damage.0 damage.1;
       fault = (fault.1 t).0;
@@ -72,11 +88,8 @@ returns-in-Err-clause-damaged g c = λ seven t before was.
       written_is = damage_written c.args.name.now c.in-Err.error before _ c.close_unopened.result.0 (c.close_unopened.ensures.closes before was) seven damage.0 damage.1 damage.2 damage.3 fault.0;
     }
 
-pub returns-in-Ok-clause-empty : goal.returns-in-Ok-clause-empty
-returns-in-Ok-clause-empty g c = λ t empty.
-    let held = subst (λ (n : List ℕ). IsHeld (g.D.Disk.view c.open_log.new.disk) n c.in-Ok.start.parts.tail) (sym c.in-Ok.ensures.name) (c.in-Ok.ensures.held t empty) in
-    subst (λ (n : List ℕ). IsEmptyWhereNone (g.D.Disk.view c.run_script-status.new.log.disk) n) c.in-Ok.ensures.name (c.run_script-status.ensures.reopens t held)
+pub returns-in-Ok-clause-unopened : goal.returns-in-Ok-clause-unopened
+returns-in-Ok-clause-unopened g c = λ t id fault. absurd (c.in-Ok.ensures.faultless t id fault)
 
-pub returns-in-Ok-clause-unharmed : goal.returns-in-Ok-clause-unharmed
-returns-in-Ok-clause-unharmed g c = λ t id fault.
-    absurd (opened_no_fault (g.D.Disk.view c.args.disk) (g.D.Disk.view c.open_log.new.disk) c.args.name.now c.in-Ok.start.parts.tail c.in-Ok.start.parts.greatest id (c.in-Ok.ensures.ready t).fits (c.in-Ok.ensures.choice t) fault)
+pub returns-in-Err-clause-unopened : goal.returns-in-Err-clause-unopened
+returns-in-Err-clause-unopened g c = λ t id fault. (refl, λ before was. record { error = c.in-Err.error; closes = c.close_unopened.ensures.closes before was })

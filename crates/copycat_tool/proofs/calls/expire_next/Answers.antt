@@ -1,0 +1,32 @@
+use Rattle.std.proofs.Common.{Result, length, sym, subst}
+use Rattle.std.specs.Prelude.{IfOk, IfErr}
+use Rattle.copycat_tool.specs.Calls.{HasFewer, IsExpiring, change_of}
+use Rattle.copycat_tool.specs.declared.calls.Expiring.{Expiring}
+use Rattle.copycat_tool.specs.declared.ending.Ending.{Ending}
+use Rattle.copycat_tool.specs.Report.{expiry}
+use Rattle.copycat_tool.specs.Standing.{IsCut}
+use Rattle.copycat_tool.proofs.CallLemmas.{Keeps, expiry_answered, expiry_cut, told_fewer}
+use Rattle.copycat_tool.proofs.calls.expire_next.Goals as goal
+
+pub returns-clause-fewer : goal.returns-clause-fewer
+returns-clause-fewer g c =
+    let P : Result Expiring Ending → Type 0 = λ r. IfOk r (λ who. HasFewer who (length c.args.host.now.core.sessions.sessions) (length c.expire-answer.new.self.core.sessions.sessions)) in
+    subst P (sym c.told_expiry.ensures) (told_fewer c.args.host.now c.expire-answer.new.self c.args.time c.expire-answer.result c.expire-answer.ensures.answer c.expire-answer.ensures.state)
+
+pub returns-clause-answered : goal.returns-clause-answered
+returns-clause-answered g c = λ t files run at.
+    let e = c.expire-answer.ensures in
+    let keeps : Keeps g.D.Disk.view c.expire-answer.new.self = record { images = c.keeps.ensures.images t; empty = c.keeps.ensures.empty t; last = c.keeps.ensures.last; layout = c.keeps.ensures.layout t; file = c.keeps.ensures.file t } in
+    let P : Result Expiring Ending → Type 0 = λ r. IfOk r (IsExpiring g.D.Disk.view files c.args.host.now c.expire-answer.new.self run c.args.time) in
+    subst P (sym c.told_expiry.ensures)
+    (expiry_answered c.logs_of_catalogs_are_plain.ensures g.D.Disk.view files c.args.host.now c.expire-answer.new.self run at keeps (g.met.D.Disk.sound c.expire-answer.new.self.disk t) e.name e.size c.args.time
+    c.expire-answer.result e.answer e.nobody e.after (e.stands t run.log at.stands) (e.layout t) (e.any_moment t run.log at.stands))
+
+pub returns-clause-cut : goal.returns-clause-cut
+returns-clause-cut g c = λ t files run at.
+    let e = c.expire-answer.ensures in
+    let keeps : Keeps g.D.Disk.view c.expire-answer.new.self = record { images = c.keeps.ensures.images t; empty = c.keeps.ensures.empty t; last = c.keeps.ensures.last; layout = c.keeps.ensures.layout t; file = c.keeps.ensures.file t } in
+    let P : Result Expiring Ending → Type 0 = λ r. IfErr r (IsCut files (g.D.Disk.view c.args.host.now.disk) (g.D.Disk.view c.expire-answer.new.self.disk) run (change_of (expiry run c.args.time) c.args.time)) in
+    subst P (sym c.told_expiry.ensures)
+    (expiry_cut c.logs_of_catalogs_are_plain.ensures g.D.Disk.view files c.args.host.now c.expire-answer.new.self run at keeps (g.met.D.Disk.sound c.expire-answer.new.self.disk t) e.name e.size c.args.time
+    c.ranges.time.fits c.logs_are_sound.ensures (e.empty t run.log at.stands) (e.any_moment t run.log at.stands) c.expire-answer.result)

@@ -1,0 +1,84 @@
+-- What is printed of the host's answers, and what a call on the host makes of the run that it stands at.
+use Rattle.std.specs.Prelude.{◌≡◌, ◌<◌, ℕ, List, ◌++◌, length, take, Option, Some, None, Result, Ok, Err}
+use Rattle.disk_model.specs.View.{View}
+use Rattle.host_types.specs.declared.entry.Refusal.{Refusal}
+use Rattle.script_text.specs.declared.printed.Printed.{Printed}
+use Rattle.script_text.specs.declared.printed.Printed.TheVariants as prints
+use Rattle.script_text.specs.Printing.{printed_text}
+use Rattle.log_model.specs.Admission.{Expired, Expiry, Expires, Nobody, Not_now}
+use Rattle.host_recovery.specs.Seen.{Seen}
+use Rattle.host_recovery.specs.declared.answers.Answer.{Answer as HostAnswer}
+use Rattle.host_recovery.specs.declared.answers.Answer.TheVariants as answers
+use Rattle.host_recovery.specs.declared.answers.HostError.{HostError}
+use Rattle.host_recovery.specs.declared.answers.HostError.TheVariants as errors
+use Rattle.resource_catalog.specs.Parts.{Parts}
+use Rattle.copycat_tool.specs.declared.calls.Expiring.{Expiring}
+use Rattle.copycat_tool.specs.declared.calls.Expiring.TheVariants as expirings
+use Rattle.copycat_tool.specs.declared.ending.Ending.{Ending}
+use Rattle.copycat_tool.specs.declared.ending.Ending.TheVariants.{WriteFault, DiskFault, NoMemory}
+use Rattle.copycat_tool.specs.Report.{Run, Answer, Change, Nothing, Stores, expiry, expired_answer}
+use Rattle.copycat_tool.specs.Runs.{Files}
+use Rattle.copycat_tool.specs.Standing.{IsMade}
+
+-- ---- what is printed
+
+abbrev pub printed_of : HostAnswer → Printed
+printed_of (answers.Session index) = prints.Session index
+printed_of (answers.Done index) = prints.Done index
+printed_of (answers.Replied index reply) = prints.Replied index reply
+printed_of (answers.Repeat reply) = prints.Repeat reply
+
+-- a refusal is printed; the other errors end the run (a host that runs isn't stopped)
+abbrev pub error_told : HostError → Result Refusal Ending
+error_told errors.Stopped = Err NoMemory
+error_told (errors.Refused why) = Ok why
+error_told errors.NoMemory = Err NoMemory
+error_told errors.Disk = Err DiskFault
+
+abbrev pub printed_refusal : Result Refusal Ending → Result Printed Ending
+printed_refusal (Ok why) = Ok (prints.Refused why)
+printed_refusal (Err ending) = Err ending
+
+abbrev pub offer_told : Result HostAnswer HostError → Result Printed Ending
+offer_told (Ok answer) = Ok (printed_of answer)
+offer_told (Err error) = printed_refusal (error_told error)
+
+abbrev pub refused_expiry : Result Refusal Ending → Result Expiring Ending
+refused_expiry (Ok why) = Ok (expirings.Refused why)
+refused_expiry (Err ending) = Err ending
+
+abbrev pub expiry_told : Result (Option (ℕ × ℕ)) HostError → Result Expiring Ending
+expiry_told (Ok None) = Ok expirings.Nobody
+expiry_told (Ok (Some one)) = Ok (expirings.Session one.0 one.1)
+expiry_told (Err error) = refused_expiry (error_told error)
+
+-- ---- what an answer means
+
+-- the answer's text is printed, and what it tells was done
+pub record IsTold {D : Type 0} (view : D → View) (files : Files) (old new : Seen D Parts) (run : Run) (this : Answer) (printed : Printed) : Type 0 where
+  pub text_is : printed_text printed ≡ this.text
+  pub made : IsMade view files old new run this
+
+-- what is changed by who expires
+abbrev pub change_of : Expiry → ℕ → Change
+change_of (Expires session) time = Stores (Expired time session)
+change_of _ time = Nothing
+
+-- the session that expires, or why nobody does
+abbrev pub IsExpiring : {D : Type 0} → (D → View) → Files → Seen D Parts → Seen D Parts → Run → ℕ → Expiring → Type 0
+IsExpiring view files old new run time (expirings.Session index session) = (expiry run time ≡ Expires session) × IsTold view files old new run (expired_answer run time session) (prints.Expired index session)
+IsExpiring view files old new run time expirings.Nobody = (expiry run time ≡ Nobody) × (new ≡ old)
+IsExpiring view files old new run time (expirings.Refused why) = (expiry run time ≡ Not_now why) × (new ≡ old)
+
+-- fewer sessions are open where one expired
+abbrev pub HasFewer : Expiring → ℕ → ℕ → Type 0
+HasFewer (expirings.Session index session) old new = new < old
+HasFewer _ old new = Unit {0}
+
+-- ---- how it ends a run
+
+-- an answer wasn't printed: the sink failed within it, or no memory was left for its text
+abbrev pub IsUnprinted : Ending → List ℕ → List ℕ → Option (List ℕ) → Type 0
+IsUnprinted WriteFault line before written = (n : ℕ) × (n < length line) × (written ≡ Some (before ++ take n line))
+IsUnprinted NoMemory line before written = written ≡ Some before
+IsUnprinted _ line before written = ⊥

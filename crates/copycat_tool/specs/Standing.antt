@@ -1,0 +1,48 @@
+-- A host over the catalog stands at a run, and what a call on it makes of the run.
+use Rattle.std.specs.Prelude.{◌≡◌, ◌⊎◌, length, is_none}
+use Rattle.disk_model.specs.Image.{Image}
+use Rattle.disk_model.specs.View.{View, IsSound, LeavesOnly, MayLeave}
+use Rattle.segment_set.specs.Fits.{IsEmptyWhereNone}
+use Rattle.log_model.specs.Layout.{alone, needs_file}
+use Rattle.host_core.specs.Seen.{hosted}
+use Rattle.host_recovery.specs.Lying.{LiesAlone}
+use Rattle.host_recovery.specs.Seen.{Seen}
+use Rattle.host_recovery.specs.Standing.{StandsAt, layout_in}
+use Rattle.resource_catalog.specs.Catalog.{catalog_decision}
+use Rattle.resource_catalog.specs.Parts.{Parts, cells_of}
+use Rattle.copycat_tool.specs.declared.ending.Ending.{Ending}
+use Rattle.copycat_tool.specs.declared.ending.Ending.TheVariants.{DiskFault, NoMemory}
+use Rattle.copycat_tool.specs.Logs.{IsLog, StandsFor}
+use Rattle.copycat_tool.specs.Report.{Run, Answer, Change, changed}
+use Rattle.copycat_tool.specs.Runs.{Files, HasPrefix}
+
+-- Between two calls: whatever a crash leaves now stands for the log, and its files lie as the run says.
+pub record IsAtRest (files : Files) (v : View) (run : Run) : Type 0 where
+  pub sound : IsSound v
+  pub logged : IsLog run.log
+  pub kept : (image : Image) → MayLeave v image → StandsFor files.name image run.log
+  pub empty : IsEmptyWhereNone v files.name
+  pub laid_out : LiesAlone files.name v.reading (alone run.layout)
+
+-- A host over the catalog stands at a run over these files.
+pub record IsAt {D : Type 0} (view : D → View) (files : Files) (h : Seen D Parts) (run : Run) : Type 0 where
+  pub name_is : h.parts.name ≡ files.name
+  pub size_is : h.size ≡ files.size
+  pub stands : StandsAt catalog_decision view cells_of h run.log
+  pub last_is : (hosted cells_of h.core).last ≡ length run.log
+  pub layout_is : layout_in (view h.disk) h.parts ≡ run.layout
+  pub file_is : needs_file run.layout ≡ is_none h.parts.tail
+  pub rest : IsAtRest files (view h.disk) run
+
+-- What this answer tells was done.
+pub record IsMade {D : Type 0} (view : D → View) (files : Files) (old new : Seen D Parts) (run : Run) (this : Answer) : Type 0 where
+  pub at : IsAt view files new (changed files.size run this.does)
+  pub any_moment : LeavesOnly (view old.disk) (view new.disk) (HasPrefix files.name (changed files.size run this.does).log (length run.log))
+
+-- The disk failed or no memory was left, and this change was made or not.
+pub record IsCut (files : Files) (old new : View) (run : Run) (change : Change) (ending : Ending) : Type 0 where
+  pub ending_is : (ending ≡ DiskFault) ⊎ (ending ≡ NoMemory)
+  pub sound : IsSound new
+  pub logged : IsLog (changed files.size run change).log
+  pub empty : IsEmptyWhereNone new files.name
+  pub any_moment : LeavesOnly old new (HasPrefix files.name (changed files.size run change).log (length run.log))
