@@ -1,6 +1,5 @@
 -- How a log lies in the files of a folder.
-use Rattle.std.specs.Prelude.{ℕ, ◌+◌, max, Bool, true, false, List, [], ◌∷◌, ◌++◌, fold}
-use Rattle.log_model.specs.Log.{Item}
+use Rattle.std.specs.Prelude.{ℕ, ◌+◌, max, Bool, true, false, List, [], ◌∷◌, ◌++◌}
 
 -- one file
 pub record PartLayout : Type 0 where
@@ -41,10 +40,6 @@ grown size greatest (p ∷ parts) = record { parts = longer p ∷ parts; greates
 -- after one entry more, where a new file has this size
 abbrev pub with_entry : ℕ → Layout → Layout
 with_entry size layout = grown size layout.greatest layout.parts
-
--- after these items more
-abbrev pub with_items : ℕ → Layout → List Item → Layout
-with_items size layout items = fold (λ l _. with_entry size l) layout items
 
 abbrev pub greatest_of : List PartLayout → ℕ
 greatest_of [] = 0

@@ -9,7 +9,6 @@ pub mod Hosted
 pub mod Kept
 pub mod LawfulRows
 pub mod Layout
-pub mod Log
 pub mod Machines
 pub mod OneByOne
 pub mod Parts
