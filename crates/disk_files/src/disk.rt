@@ -4,7 +4,7 @@ ghost use Rattle.disk_model.specs.View.{HasCause};
 ghost use Rattle.disk_files.specs.Silence.{silence};
 
 use crate::names::name_of;
-use crate::steps::{list_files, open_file, read_file, sync_file, write_file};
+use crate::steps::{list_files, open_file, read_file, sync_folder, write_file};
 use disk_model::{Disk, DiskFault, FileId};
 use host_types::LogName;
 use std::fs::{self, File, OpenFile};
@@ -21,9 +21,17 @@ use std::rt::Files;
 ///
 /// The file of the last call stays open for the next one, both for reading and for writing, until
 /// another file is used, a file is created or removed, or a call fails.
+///
+/// A sync brings the bytes and the length of its file to the disk (`fdatasync`). The folder is synced
+/// too, with every creation and removal in it, but only where it has to be: at the first sync of a
+/// log's files, since an earlier process may have left something of that log unsettled, and at the
+/// first sync after a file was created or removed here, or may have been. Elsewhere there is no
+/// creation or removal left that a sync would have to settle.
 pub struct FileDisk<'a, R: Files> {
     rt: &'a R,
     last: Option<OpenedFile<R::File>>,
+    /// The log whose files were synced when the folder was, if nothing was created or removed here since.
+    settled: Option<LogName>,
     faults: u64,
 }
 
@@ -32,6 +40,7 @@ impl<R: Files> Drop for FileDisk<'_, R> {
         let FileDisk {
             rt: _,
             last: _last,
+            settled: _,
             faults: _,
         } = self;
     }
@@ -59,6 +68,7 @@ impl<'a, R: Files + AllocGlobal> FileDisk<'a, R> {
         FileDisk {
             rt,
             last: None,
+            settled: None,
             faults: 0,
         }
     }
@@ -123,6 +133,27 @@ impl<'a, R: Files + AllocGlobal> FileDisk<'a, R> {
         self.looked(answer)
     }
 
+    /// Whether all creations and removals of this log's files, and of all files by this process, are on the disk.
+    fn is_settled(&self, name: &LogName) -> bool {
+        match &self.settled {
+            Some(settled) => settled.bytes() == name.bytes(),
+            None => false,
+        }
+    }
+
+    /// Brings creations and removals to the disk, where some may not be there.
+    fn settle(&mut self, name: &LogName) -> Result<(), DiskFault>
+        ensures cause { HasCause self.old.faults self.new.faults result }
+    {
+        if self.is_settled(name) {
+            return Ok(());
+        }
+        let answer = sync_folder(self.rt);
+        self.changed(answer)?;
+        self.settled = Some(*name);
+        Ok(())
+    }
+
     /// Keeps a file open for the next call.
     fn keep(&mut self, name: &LogName, id: FileId, file: R::File)
         ensures { self.new.faults ≡ self.old.faults }
@@ -153,6 +184,7 @@ impl<'a, R: Files + AllocGlobal> Disk for FileDisk<'a, R> {
         self.last = None;
         let answer = name_of(self.rt.alloc(), name, id);
         let path = self.looked(answer)?;
+        self.settled = None;
         let answer = File::create_new(self.rt, path.as_str());
         let file = self.changed(answer)?;
         self.keep(name, id, file);
@@ -197,8 +229,9 @@ impl<'a, R: Files + AllocGlobal> Disk for FileDisk<'a, R> {
 
     fn sync(&mut self, name: &LogName, id: FileId) -> Result<(), DiskFault> {
         let file = self.file(name, id)?;
-        let answer = sync_file(self.rt, &file);
+        let answer = file.sync_data();
         self.changed(answer)?;
+        self.settle(name)?;
         self.keep(name, id, file);
         Ok(())
     }
@@ -207,6 +240,7 @@ impl<'a, R: Files + AllocGlobal> Disk for FileDisk<'a, R> {
         self.last = None;
         let answer = name_of(self.rt.alloc(), name, id);
         let path = self.looked(answer)?;
+        self.settled = None;
         let answer = fs::remove_file(self.rt, path.as_str());
         self.changed(answer)
     }

@@ -59,9 +59,8 @@ pub(crate) fn write_file<F: Write + Seek>(file: &mut F, at: u64, bytes: &[u8]) -
     file.write_all(bytes)
 }
 
-/// Brings the file's bytes to the disk, and then the names of the folder.
-pub(crate) fn sync_file<R: Files>(rt: &R, file: &R::File) -> io::Result<()> {
-    file.sync_all()?;
+/// Brings the names of the folder to the disk: which files there are.
+pub(crate) fn sync_folder<R: Files>(rt: &R) -> io::Result<()> {
     let folder = fs::open(rt, ".")?;
     folder.sync_all()
 }
