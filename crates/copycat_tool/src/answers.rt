@@ -23,6 +23,7 @@ fn answer_last<D: Disk, O: Sink>(
     piece: &[u8],
     number: u64,
     host: &mut Host<D, Catalog>,
+    text: &mut Vec<u8>,
     out: &mut O,
 ) -> Ending
     requires runs { host.old.stopped ≡ false }
@@ -39,7 +40,7 @@ fn answer_last<D: Disk, O: Sink>(
     if piece.is_empty() {
         return Ending::Done;
     }
-    match turn(alloc, piece, number, host, out) {
+    match turn(alloc, piece, number, host, text, out) {
         Ok(()) => Ending::Done,
         Err(ending) => ending,
     }
@@ -50,6 +51,7 @@ fn answer_lines<I: Source, D: Disk, O: Sink>(
     alloc: Global,
     script: &mut I,
     host: &mut Host<D, Catalog>,
+    text: &mut Vec<u8>,
     out: &mut O,
 ) -> Ending
     requires runs { host.old.stopped ≡ false }
@@ -74,13 +76,20 @@ fn answer_lines<I: Source, D: Disk, O: Sink>(
         };
         match piece {
             Piece::Line { length } => {
-                match turn(alloc, &reader.held.bytes()[..length], number, host, out) {
+                match turn(
+                    alloc,
+                    &reader.held.bytes()[..length],
+                    number,
+                    host,
+                    text,
+                    out,
+                ) {
                     Ok(()) => {}
                     Err(ending) => return ending,
                 }
                 reader.skip(length + 1);
             }
-            Piece::Last => return answer_last(alloc, reader.held.bytes(), number, host, out),
+            Piece::Last => return answer_last(alloc, reader.held.bytes(), number, host, text, out),
             Piece::Long => return Ending::Fault { line: number },
             Piece::Above => return Ending::TooLong,
         }
@@ -107,8 +116,9 @@ pub fn answer_script<I: Source, D: Disk, O: Sink>(
     ensures source { result ≡ Ending.ReadFault → Rose (I.faults script.old) (I.faults script.new) }
     ensures undamaged { IsTrue D.tells → (base generation at : ℕ) → result ≡ Ending.Damaged base generation at → ⊥ }
 {
-    match put_answer(alloc, Printed::Opened { last: host.last() }, out) {
-        Ok(()) => answer_lines(alloc, script, host, out),
+    let mut text = Vec::new(alloc);
+    match put_answer(Printed::Opened { last: host.last() }, &mut text, out) {
+        Ok(()) => answer_lines(alloc, script, host, &mut text, out),
         Err(ending) => ending,
     }
 }

@@ -1,5 +1,5 @@
 // What is printed: one line of text, with its line feed.
-ghost use Rattle.std.specs.Prelude.{◌≡◌, ◌∷◌, ◌++◌, [], IfOk};
+ghost use Rattle.std.specs.Prelude.{◌≡◌, ◌∷◌, ◌++◌, [], IfOk, OnOk};
 ghost use Rattle.std.specs.String.{string_bytes};
 ghost use Rattle.script_text.specs.Printing.{HasRange, printed_line};
 ghost use Rattle.copycat_tool.specs.Report.{fault_text};
@@ -8,14 +8,13 @@ use host_types::NoMemory;
 use script_text::{Printed, print};
 use std::alloc::{AllocError, Global};
 
-/// The line of an answer.
-pub fn line_of(alloc: Global, answer: Printed) -> Result<Vec<u8>, NoMemory>
+/// The line of an answer, in the place of what the buffer held.
+pub fn line_of(answer: Printed, text: &mut Vec<u8>) -> Result<(), NoMemory>
     requires { HasRange answer }
-    ensures { IfOk result (λ text. text.items ≡ printed_line answer) }
+    ensures { OnOk result (text.new.items ≡ printed_line answer) }
 {
-    let mut text = Vec::new(alloc);
-    print(&answer, &mut text)?;
-    Ok(text)
+    text.clear();
+    print(&answer, text)
 }
 
 /// The line that names a line of the script that isn't in the grammar.

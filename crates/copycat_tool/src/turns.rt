@@ -24,8 +24,8 @@ use script_io::{Sink, put_all};
 use script_text::Printed;
 use std::alloc::Global;
 
-/// Prints an answer.
-pub fn put_answer<O: Sink>(alloc: Global, answer: Printed, out: &mut O) -> Result<(), Ending>
+/// Prints an answer, by way of `text`, which is room for one line that is used again for each.
+pub fn put_answer<O: Sink>(answer: Printed, text: &mut Vec<u8>, out: &mut O) -> Result<(), Ending>
     requires { HasRange answer }
     ensures whole { (before : List ℕ) → O.written out.old ≡ Some before → OnOk result (O.written out.new ≡ Some (before ++ printed_line answer)) }
     ensures part { (before : List ℕ) → O.written out.old ≡ Some before → IfErr result (λ ending. IsUnprinted ending (printed_line answer) before (O.written out.new)) }
@@ -35,10 +35,10 @@ pub fn put_answer<O: Sink>(alloc: Global, answer: Printed, out: &mut O) -> Resul
     ensures source { IsErrOf result Ending.ReadFault → ⊥ }
     ensures undamaged { (base generation at : ℕ) → IsErrOf result (Ending.Damaged base generation at) → ⊥ }
 {
-    let Ok(text) = line_of(alloc, answer) else {
+    let Ok(()) = line_of(answer, text) else {
         return Err(Ending::NoMemory);
     };
-    match put_all(out, &text) {
+    match put_all(out, text) {
         Ok(()) => Ok(()),
         Err(_) => Err(Ending::WriteFault),
     }
@@ -49,6 +49,7 @@ fn expire_all<D: Disk, O: Sink>(
     alloc: Global,
     time: Time,
     host: &mut Host<D, Catalog>,
+    text: &mut Vec<u8>,
     out: &mut O,
 ) -> Result<Option<Refusal>, Ending>
     requires runs { host.old.stopped ≡ false }
@@ -69,7 +70,7 @@ fn expire_all<D: Disk, O: Sink>(
     loop {
         match expire_next(alloc, time, host) {
             Ok(Expiring::Session { index, session }) => {
-                match put_answer(alloc, Printed::Expired { index, session }, out) {
+                match put_answer(Printed::Expired { index, session }, text, out) {
                     Ok(()) => {}
                     Err(ending) => return Err(ending),
                 }
@@ -86,6 +87,7 @@ fn answer_offer<D: Disk, O: Sink>(
     alloc: Global,
     one: &Offer,
     host: &mut Host<D, Catalog>,
+    text: &mut Vec<u8>,
     out: &mut O,
 ) -> Result<(), Ending>
     requires runs { host.old.stopped ≡ false }
@@ -105,7 +107,7 @@ fn answer_offer<D: Disk, O: Sink>(
     ensures undamaged { IsTrue D.tells → (base generation at : ℕ) → IsErrOf result (Ending.Damaged base generation at) → ⊥ }
 {
     match make_offer(alloc, one, host) {
-        Ok(answer) => put_answer(alloc, answer, out),
+        Ok(answer) => put_answer(answer, text, out),
         Err(ending) => Err(ending),
     }
 }
@@ -115,6 +117,7 @@ fn answer_line_of_offer<D: Disk, O: Sink>(
     alloc: Global,
     one: &Offer,
     host: &mut Host<D, Catalog>,
+    text: &mut Vec<u8>,
     out: &mut O,
 ) -> Result<(), Ending>
     requires runs { host.old.stopped ≡ false }
@@ -133,9 +136,9 @@ fn answer_line_of_offer<D: Disk, O: Sink>(
     ensures source { IsErrOf result Ending.ReadFault → ⊥ }
     ensures undamaged { IsTrue D.tells → (base generation at : ℕ) → IsErrOf result (Ending.Damaged base generation at) → ⊥ }
 {
-    match expire_all(alloc, one.time, host, out) {
-        Ok(None) => answer_offer(alloc, one, host, out),
-        Ok(Some(why)) => put_answer(alloc, Printed::Refused(why), out),
+    match expire_all(alloc, one.time, host, text, out) {
+        Ok(None) => answer_offer(alloc, one, host, text, out),
+        Ok(Some(why)) => put_answer(Printed::Refused(why), text, out),
         Err(ending) => Err(ending),
     }
 }
@@ -146,6 +149,7 @@ fn answer_look<D: Disk, O: Sink>(
     name: &Key,
     op: &Op,
     host: &mut Host<D, Catalog>,
+    text: &mut Vec<u8>,
     out: &mut O,
 ) -> Result<(), Ending>
     requires runs { host.old.stopped ≡ false }
@@ -165,7 +169,7 @@ fn answer_look<D: Disk, O: Sink>(
     ensures undamaged { IsTrue D.tells → (base generation at : ℕ) → IsErrOf result (Ending.Damaged base generation at) → ⊥ }
 {
     match look(alloc, name, op, host) {
-        Ok(answer) => put_answer(alloc, answer, out),
+        Ok(answer) => put_answer(answer, text, out),
         Err(ending) => Err(ending),
     }
 }
@@ -174,6 +178,7 @@ fn answer_look<D: Disk, O: Sink>(
 fn answer_reopen<D: Disk, O: Sink>(
     alloc: Global,
     host: &mut Host<D, Catalog>,
+    text: &mut Vec<u8>,
     out: &mut O,
 ) -> Result<(), Ending>
     requires runs { host.old.stopped ≡ false }
@@ -192,7 +197,7 @@ fn answer_reopen<D: Disk, O: Sink>(
     ensures undamaged { IsTrue D.tells → (base generation at : ℕ) → IsErrOf result (Ending.Damaged base generation at) → ⊥ }
 {
     match reopen(alloc, host) {
-        Ok(answer) => put_answer(alloc, answer, out),
+        Ok(answer) => put_answer(answer, text, out),
         Err(ending) => Err(ending),
     }
 }
@@ -202,6 +207,7 @@ fn answer_command<D: Disk, O: Sink>(
     alloc: Global,
     asked: &Command,
     host: &mut Host<D, Catalog>,
+    text: &mut Vec<u8>,
     out: &mut O,
 ) -> Result<(), Ending>
     requires runs { host.old.stopped ≡ false }
@@ -222,10 +228,10 @@ fn answer_command<D: Disk, O: Sink>(
 {
     match asked {
         Command::Skip => Ok(()),
-        Command::Offer(one) => answer_line_of_offer(alloc, one, host, out),
-        Command::Ask { name, op } => answer_look(alloc, name, op, host, out),
-        Command::Quiet => put_answer(alloc, quiet_of(host), out),
-        Command::Reopen => answer_reopen(alloc, host, out),
+        Command::Offer(one) => answer_line_of_offer(alloc, one, host, text, out),
+        Command::Ask { name, op } => answer_look(alloc, name, op, host, text, out),
+        Command::Quiet => put_answer(quiet_of(host), text, out),
+        Command::Reopen => answer_reopen(alloc, host, text, out),
     }
 }
 
@@ -235,6 +241,7 @@ pub fn turn<D: Disk, O: Sink>(
     line: &[u8],
     number: u64,
     host: &mut Host<D, Catalog>,
+    text: &mut Vec<u8>,
     out: &mut O,
 ) -> Result<(), Ending>
     requires runs { host.old.stopped ≡ false }
@@ -253,7 +260,7 @@ pub fn turn<D: Disk, O: Sink>(
     ensures undamaged { IsTrue D.tells → (base generation at : ℕ) → IsErrOf result (Ending.Damaged base generation at) → ⊥ }
 {
     match read_command(alloc, line) {
-        Ok(Some(asked)) => answer_command(alloc, &asked, host, out),
+        Ok(Some(asked)) => answer_command(alloc, &asked, host, text, out),
         Ok(None) => Err(Ending::Fault { line: number }),
         Err(NoMemory) => Err(Ending::NoMemory),
     }

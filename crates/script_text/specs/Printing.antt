@@ -86,6 +86,14 @@ front_text (Answer reply) = codes "answer "
 front_text (Event session index previous event) = codes "event " ++ decimal session ++ codes " at " ++ decimal index ++ codes " after " ++ decimal previous ++ codes ": "
 front_text answer = printed_text answer
 
+-- what stands behind that: the reply, the event, or nothing
+abbrev pub back_text : printed.Printed → List ℕ
+back_text (Replied index reply) = reply_text reply
+back_text (Repeat reply) = reply_text reply
+back_text (Answer reply) = reply_text reply
+back_text (Event session index previous event) = event_text event
+back_text answer = []
+
 -- 10 is a line feed
 abbrev pub printed_line : printed.Printed → List ℕ
 printed_line answer = printed_text answer ++ 10 ∷ []

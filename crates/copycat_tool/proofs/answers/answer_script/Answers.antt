@@ -14,8 +14,8 @@ returns-in-Ok-clause-ended g c = λ t files run at bytes before left is.
     then_run g.D.Disk.view files (opening run ∷ []) h h run before (g.O.Sink.written c.put_answer.new.out) told (reported files.size c.answer_lines.result run bytes (g.I.Source.left c.answer_lines.new.script)) (g.D.Disk.view c.answer_lines.new.host.disk) c.answer_lines.result (g.O.Sink.written c.answer_lines.new.out)
     (c.answer_lines.ensures.ended t files run at bytes (before ++ told.text) left told.written_is)
 
-pub returns-in-Err-clause-ended : goal.returns-in-Err-clause-ended
-returns-in-Err-clause-ended g c = λ t files run at bytes before left is.
+pub returns-clause-ended : goal.returns-clause-ended
+returns-clause-ended g c = λ t files run at bytes before left is.
     let h = c.args.host.now in
     let text : printed_text (prints.Opened c.last.result) ≡ (opening run).text = ap (λ (n : ℕ). printed_text (prints.Opened n)) (c.last.ensures ∙ at.last_is) in
     let v = g.D.Disk.view h.disk in
