@@ -5,7 +5,7 @@ use Rattle.host_types.specs.Ranges.{EntryFits, IsInRange}
 use Rattle.disk_model.specs.View.{View, IsSound, LeavesOnly}
 use Rattle.disk_model.proofs.Moments.{started}
 use Rattle.segment_files.specs.Parse.{is_built}
-use Rattle.segment_files.specs.Contents.{frame_bytes}
+use Rattle.segment_files.specs.Contents.{shut_frame_bytes}
 use Rattle.segment_set.specs.declared.parts.Parts.{Parts}
 use Rattle.segment_set.specs.Fits.{Fits, IsEmptyWhereNone, IsFrameFor, IsHeld, StandsOrGains}
 use Rattle.segment_set.proofs.Emptied.{held_empty}
@@ -13,12 +13,12 @@ use Rattle.host_recovery.specs.Standing.{log_in}
 use Rattle.host_recovery.proofs.Files.{stands_now}
 
 -- the frame is one for the entry behind the last
-pub frame_for : (last index : ℕ) (frame : List ℕ) (entry : Entry) → index ≡ last → is_built entry.body ≡ true → IsInRange (index + 1) entry → EntryFits entry → frame ≡ frame_bytes ((index + 1, entry) ∷ []) → IsFrameFor last frame entry
+pub frame_for : (last index : ℕ) (frame : List ℕ) (entry : Entry) → index ≡ last → is_built entry.body ≡ true → IsInRange (index + 1) entry → EntryFits entry → frame ≡ shut_frame_bytes ((index + 1, entry) ∷ []) → IsFrameFor last frame entry
 frame_for last index frame entry is built range fits bytes = record {
   built = built;
   range = subst (λ (n : ℕ). IsInRange (n + 1) entry) is range;
   fits = fits;
-  bytes = bytes ∙ ap (λ (n : ℕ). frame_bytes ((n + 1, entry) ∷ [])) is;
+  bytes = bytes ∙ ap (λ (n : ℕ). shut_frame_bytes ((n + 1, entry) ∷ [])) is;
 }
 
 -- nothing was done yet

@@ -4,7 +4,7 @@ ghost use Rattle.host_types.specs.Limits.{index_limit, last_limit};
 ghost use Rattle.host_types.specs.Ranges.{EntryFits, IsInRange};
 ghost use Rattle.disk_model.specs.View.{LeavesOnly};
 ghost use Rattle.segment_files.specs.Parse.{is_built};
-ghost use Rattle.segment_files.specs.Contents.{frame_bytes};
+ghost use Rattle.segment_files.specs.Contents.{shut_frame_bytes};
 ghost use Rattle.segment_set.specs.Fits.{IsEmptyWhereNone, IsHeld, KeepsNames, StandsOrGains as FilesStandOrGain, last_of};
 ghost use Rattle.log_model.specs.Admission.{Admitted, Item, Offered, Expired};
 ghost use Rattle.host_types.specs.declared.entry.Body.TheVariants as body;
@@ -83,17 +83,12 @@ fn put_frame(
     frame: &mut Vec<u8>,
     places: &mut Vec<u32>,
     index: Index,
-    entry: Entry,
-) -> Result<Entry, NoMemory>
-    requires range { IsInRange index entry }
-    ensures same { IfOk result (λ back. back ≡ entry) }
-    ensures frame { OnOk result (frame.new.items ≡ frame_bytes ((index, entry) ∷ [])) }
+    entry: &Entry,
+) -> Result<(), NoMemory>
+    ensures { OnOk result (frame.new.items ≡ shut_frame_bytes ((index, entry.now) ∷ [])) }
 {
     frame.clear();
-    let one = [(index, entry)];
-    segment_files::frame(&one, frame, places)?;
-    let [(_, entry)] = one;
-    Ok(entry)
+    segment_files::frame(&[(index, entry)], frame, places)
 }
 
 impl<D: Disk, M: Machine> Host<D, M> {
@@ -122,7 +117,13 @@ impl<D: Disk, M: Machine> Host<D, M> {
         ensures cause { HasHostCause (D.faults self.old.disk) (D.faults self.new.disk) result }
     {
         let index = self.core.last() + 1;
-        let entry = put_frame(&mut self.frame, &mut self.places, index, entry)?;
+        match put_frame(&mut self.frame, &mut self.places, index, &entry) {
+            Ok(()) => {}
+            Err(_) => {
+                drop(entry);
+                return Err(HostError::NoMemory);
+            }
+        }
         let prepared = match self.core.reserve(alloc, index, &entry) {
             Ok(prepared) => prepared,
             Err(_) => {
@@ -130,10 +131,7 @@ impl<D: Disk, M: Machine> Host<D, M> {
                 return Err(HostError::NoMemory);
             }
         };
-        match self
-            .parts
-            .append(alloc, &mut self.disk, &self.frame, self.size)
-        {
+        match self.parts.append(&mut self.disk, &self.frame, self.size) {
             Ok(()) => {
                 self.core.apply(index, entry, prepared);
                 Ok(())

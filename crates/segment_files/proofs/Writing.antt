@@ -1,11 +1,11 @@
 -- The bytes that a frame is made of, and where its entries stand.
-use Rattle.std.proofs.Common.{◌≡◌, ℕ, ◌+◌, List, [], ◌∷◌, ◌++◌, length, take, drop, get_or, ◌<◌, sym, ap, ◌∙◌, arith, append_assoc, length-append}
-use Rattle.std.proofs.lemmas.List.{append-nil, take_more, take_all, drop_all, take_at, drop_at}
+use Rattle.std.proofs.Common.{◌≡◌, ℕ, ◌+◌, List, [], ◌∷◌, ◌++◌, length, take, drop, get_or, ◌<◌, Bor, sym, ap, ◌∙◌, arith, append_assoc, length-append}
+use Rattle.std.proofs.lemmas.List.{append-nil, take_more, take_all, drop_all, take_at, drop_at, get_or-map, length-map}
 use Rattle.disk_model.specs.Image.{written}
 use Rattle.host_types.specs.declared.entry.Entry.{Entry}
 use Rattle.entry_codec.specs.Spelled.{spelled}
 use Rattle.segment_files.specs.Parse.{Numbered}
-use Rattle.segment_files.specs.Contents.{body_bytes, places_from}
+use Rattle.segment_files.specs.Contents.{body_bytes, lent, places_from}
 
 -- with one entry more
 pub body-push : (es : Numbered) (index : ℕ) (entry : Entry) → body_bytes (es ++ (index, entry) ∷ []) ≡ body_bytes es ++ spelled index entry
@@ -20,8 +20,11 @@ places-push at (e ∷ es) index entry =
     ∙ ap (λ (k : ℕ). at ∷ (places_from (at + length here) es ++ k ∷ [])) (omega (arith, length-append here (body_bytes es)))
 
 -- as many entries as were gone through, and this one
-pub one_more_entry : (es : Numbered) (n : ℕ) (e : ℕ × Entry) → n < length es → e ≡ get_or es n e → take (n + 1) es ≡ take n es ++ (e.0, e.1) ∷ []
-one_more_entry es n e lt is = take_more es n e lt ∙ ap (λ (x : ℕ × Entry). take n es ++ x ∷ []) (sym is)
+pub one_lent_more : (es : List (ℕ × Bor Entry)) (n : ℕ) (e : ℕ × Bor Entry) → n < length es → e ≡ get_or es n e → take (n + 1) (lent es) ≡ take n (lent es) ++ (e.0, e.1.now) ∷ []
+one_lent_more es n e lt is =
+    let number : ℕ × Bor Entry → ℕ × Entry = λ x. (x.0, x.1.now) in
+    let below : n < length (lent es) = omega (arith, lt, length-map es number) in
+    take_more (lent es) n (number e) below ∙ ap (λ (x : ℕ × Entry). take n (lent es) ++ x ∷ []) (get_or-map number es n e (number e) lt ∙ ap number (sym is))
 
 -- what a slice of all bytes wrote back
 written_back : (x items : List ℕ) (long : ℕ) → length x ≡ long → length items ≡ long → take long (x ++ drop (length x) items) ≡ x

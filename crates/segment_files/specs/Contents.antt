@@ -1,6 +1,7 @@
 -- What a scan answers of a file, beside what its bytes are.
-use Rattle.std.specs.Prelude.{◌≡◌, ◌<◌, ◌≤◌, ◌+◌, ◌-◌, ◌*◌, ℕ, Bool, true, false, List, [], ◌∷◌, ◌++◌, length, take, drop, Option, Some, None, Result, Ok, Err, IsErrOf, IsTrue}
+use Rattle.std.specs.Prelude.{◌≡◌, ◌<◌, ◌≤◌, ◌+◌, ◌-◌, ◌*◌, ℕ, Bool, true, false, List, [], ◌∷◌, ◌++◌, length, map, take, drop, Option, Some, None, Result, Ok, Err, IsErrOf, IsTrue}
 use Rattle.std.specs.List.{flat_map}
+use Rattle.std.specs.Borrow.{Bor}
 use Rattle.std.specs.Int.{w32, w64, to_be_bytes}
 use Rattle.host_types.specs.declared.entry.Entry.{Entry}
 use Rattle.disk_model.specs.declared.disk.DiskFault.{DiskFault}
@@ -55,6 +56,14 @@ body_bytes entries = flat_map (λ (e : ℕ × Entry). spelled e.0 e.1) entries
 -- a frame: its open gate, its length, and its body
 abbrev pub frame_bytes : Numbered → List ℕ
 frame_bytes entries = 1 ∷ to_be_bytes w32 (length (body_bytes entries)) ++ body_bytes entries
+
+-- entries that a frame is made of, lent with their indexes
+abbrev pub lent : List (ℕ × Bor Entry) → Numbered
+lent entries = map (λ e. (e.0, e.1.now)) entries
+
+-- what is appended with it: the shut gate of the next frame stands behind it
+abbrev pub shut_frame_bytes : Numbered → List ℕ
+shut_frame_bytes entries = frame_bytes entries ++ 0 ∷ []
 
 -- where the entries stand, from this place on
 abbrev pub places_from : ℕ → Numbered → List ℕ

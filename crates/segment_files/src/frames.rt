@@ -1,6 +1,6 @@
 // Writes frames: an open gate, a length, and so many bytes of entries.
 ghost use Rattle.std.specs.Prelude.{◌≡◌, ◌++◌, ◌+◌, ◌-◌, ◌*◌, ◌≤◌, ◌<◌, [], length, take, OnOk, OnErr};
-ghost use Rattle.segment_files.specs.Contents.{body_bytes, frame_bytes, places_from};
+ghost use Rattle.segment_files.specs.Contents.{body_bytes, frame_bytes, lent, places_from, shut_frame_bytes};
 
 use crate::descriptor::put;
 use entry_codec::write;
@@ -17,15 +17,15 @@ const HEAD: [u8; 5] = [1, 0, 0, 0, 0];
 
 /// Puts entries behind what stands there, and the place of each, counted from `start`, behind the other places.
 fn put_entries(
-    entries: &[(Index, Entry)],
+    entries: &[(Index, &Entry)],
     start: usize,
     out: &mut Vec<u8>,
     places: &mut Vec<u32>,
 ) -> Result<(), NoMemory>
     requires few { length entries.now ≤ 64 }
     requires start { length out.old.items ≡ start + 5 }
-    ensures body { OnOk result (out.new.items ≡ out.old.items ++ body_bytes entries.now) }
-    ensures places { OnOk result (places.new.items ≡ places.old.items ++ places_from 5 entries.now) }
+    ensures body { OnOk result (out.new.items ≡ out.old.items ++ body_bytes (lent entries.now)) }
+    ensures places { OnOk result (places.new.items ≡ places.old.items ++ places_from 5 (lent entries.now)) }
     ensures short { OnOk result (length out.new.items ≤ start + 5 + 131072 * length entries.now) }
     ensures ahead { take start out.new.items ≡ take start out.old.items }
 {
@@ -38,7 +38,7 @@ fn put_entries(
 
 /// Puts a frame behind the bytes that stand there, which end at `start`.
 fn put_frame(
-    entries: &[(Index, Entry)],
+    entries: &[(Index, &Entry)],
     start: usize,
     out: &mut Vec<u8>,
     places: &mut Vec<u32>,
@@ -46,8 +46,8 @@ fn put_frame(
     requires few { length entries.now ≤ 64 }
     requires start { length out.old.items ≡ start }
     requires none { places.old.items ≡ [] }
-    ensures frame { OnOk result (out.new.items ≡ out.old.items ++ frame_bytes entries.now) }
-    ensures places { OnOk result (places.new.items ≡ places_from 5 entries.now) }
+    ensures frame { OnOk result (out.new.items ≡ out.old.items ++ frame_bytes (lent entries.now)) }
+    ensures places { OnOk result (places.new.items ≡ places_from 5 (lent entries.now)) }
     ensures ahead { take start out.new.items ≡ out.old.items }
 {
     out.extend_from_slice(&HEAD)?;
@@ -57,22 +57,42 @@ fn put_frame(
     Ok(())
 }
 
-/// Appends one open frame with these entries, 1 to 64, and leaves in `places` the place of each, counted from the frame's
-/// gate (`docs/format.md`). Where no memory is left `out` is as before, and `places` is empty.
+/// Puts a frame and a shut gate behind the bytes that stand there, which end at `start`.
+fn put_shut_frame(
+    entries: &[(Index, &Entry)],
+    start: usize,
+    out: &mut Vec<u8>,
+    places: &mut Vec<u32>,
+) -> Result<(), NoMemory>
+    requires few { length entries.now ≤ 64 }
+    requires start { length out.old.items ≡ start }
+    requires none { places.old.items ≡ [] }
+    ensures frame { OnOk result (out.new.items ≡ out.old.items ++ shut_frame_bytes (lent entries.now)) }
+    ensures places { OnOk result (places.new.items ≡ places_from 5 (lent entries.now)) }
+    ensures ahead { take start out.new.items ≡ out.old.items }
+{
+    put_frame(entries, start, out, places)?;
+    out.push(0)?;
+    Ok(())
+}
+
+/// Appends one open frame with these entries, 1 to 64, and the shut gate that stands behind it, as `append_frame` writes
+/// them. It leaves in `places` the place of each entry, counted from the frame's gate (`docs/format.md`). Where no memory
+/// is left `out` is as before, and `places` is empty.
 pub fn frame(
-    entries: &[(Index, Entry)],
+    entries: &[(Index, &Entry)],
     out: &mut Vec<u8>,
     places: &mut Vec<u32>,
 ) -> Result<(), NoMemory>
     requires some { 1 ≤ length entries.now }
     requires few { length entries.now ≤ 64 }
-    ensures ok { OnOk result (out.new.items ≡ out.old.items ++ frame_bytes entries.now) }
-    ensures places { OnOk result (places.new.items ≡ places_from 5 entries.now) }
+    ensures ok { OnOk result (out.new.items ≡ out.old.items ++ shut_frame_bytes (lent entries.now)) }
+    ensures places { OnOk result (places.new.items ≡ places_from 5 (lent entries.now)) }
     ensures err { OnErr result ((out.new.items ≡ out.old.items) × (places.new.items ≡ [])) }
 {
     let start = out.len();
     places.clear();
-    match put_frame(entries, start, out, places) {
+    match put_shut_frame(entries, start, out, places) {
         Ok(()) => Ok(()),
         Err(NoMemory) => {
             out.truncate(start);

@@ -6,7 +6,6 @@ ghost use Rattle.segment_files.specs.Files.{IsShut, KeepsOthers, OrGate, Becomes
 
 use disk_model::{Disk, DiskFault, FileId};
 use host_types::LogName;
-use std::alloc::Global;
 
 /// Opens a gate, once all that stands behind it is on the disk: sync, write 1 at `at`, sync.
 pub fn open_gate<D: Disk>(
@@ -52,11 +51,10 @@ fn write_behind<D: Disk>(
     Ok(gate + behind.len() as u64)
 }
 
-/// Appends a frame to a file whose shut gate stands at `gate`. The frame, which begins with its open gate, is written
-/// behind the shut one together with the next shut gate, and synced; then the gate is opened. A crash at any moment
-/// leaves the frame whole or absent. Answers the place of the new gate.
+/// Appends a frame to a file whose shut gate stands at `gate`. The frame comes with its gate open, and with the shut gate of
+/// the next frame as its last byte (`frame` makes it so). What stands behind its own gate is written behind the shut one, and
+/// synced; then the gate is opened. A crash at any moment leaves the frame whole or absent. Answers the place of the new gate.
 pub fn append_frame<D: Disk>(
-    alloc: Global,
     disk: &mut D,
     name: &LogName,
     id: FileId,
@@ -65,17 +63,15 @@ pub fn append_frame<D: Disk>(
 ) -> Result<u64, DiskFault>
     requires id { IsFileId id }
     requires at_gate { IsTrue D.tells → IsAtGate (D.view disk.old) (place name.now id) gate }
-    requires open { (rest : List ℕ) × (frame.now ≡ 1 ∷ rest) }
-    requires room { gate + length frame.now < 2 ^ 64 }
-    ensures gate { IfOk result (λ next. next ≡ gate + length frame.now) }
-    ensures appended { OnOk result (IsTrue D.tells → (b rest : List ℕ) → frame.now ≡ 1 ∷ rest → Reads (D.view disk.old) (place name.now id) b
+    requires open { (rest : List ℕ) × (frame.now ≡ 1 ∷ then_shut rest) }
+    requires room { gate + length frame.now ≤ 2 ^ 64 }
+    ensures gate { IfOk result (λ next. next + 1 ≡ gate + length frame.now) }
+    ensures appended { OnOk result (IsTrue D.tells → (b rest : List ℕ) → frame.now ≡ 1 ∷ then_shut rest → Reads (D.view disk.old) (place name.now id) b
         → Becomes (D.view disk.old) (D.view disk.new) (place name.now id) (appended b gate (then_shut rest))) }
-    ensures any_moment { IsTrue D.tells → (rest : List ℕ) → frame.now ≡ 1 ∷ rest
+    ensures any_moment { IsTrue D.tells → (rest : List ℕ) → frame.now ≡ 1 ∷ then_shut rest
         → LeavesAt (D.view disk.old) (D.view disk.new) (OrFrame (D.view disk.old) (place name.now id) gate (then_shut rest)) }
     ensures others { IsTrue D.tells → KeepsOthers (D.view disk.old) (D.view disk.new) (place name.now id) }
     ensures cause { HasCause (D.faults disk.old) (D.faults disk.new) result }
 {
-    let mut behind = frame[1..].to_vec(alloc)?;
-    behind.push(0)?;
-    write_behind(disk, name, id, gate, &behind)
+    write_behind(disk, name, id, gate, &frame[1..])
 }

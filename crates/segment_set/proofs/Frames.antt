@@ -1,5 +1,5 @@
 -- A frame with the next entry.
-use Rattle.std.proofs.Common.{◌≡◌, ℕ, ◌+◌, ◌<◌, ◌≤◌, List, [], ◌∷◌, length, drop, refl, sym, ap, subst, ◌∙◌, arith}
+use Rattle.std.proofs.Common.{◌≡◌, ℕ, ◌+◌, ◌<◌, ◌≤◌, List, [], ◌∷◌, length, drop, refl, sym, ap, subst, ◌∙◌, arith, length-append}
 use Rattle.std.proofs.lemmas.List.{append-nil}
 use Rattle.host_types.specs.declared.entry.Entry.{Entry}
 use Rattle.entry_codec.specs.Spelled.{spelled}
@@ -9,7 +9,7 @@ use Rattle.entry_codec.proofs.Bounds.{least_size, greatest_size}
 use Rattle.disk_model.specs.declared.file_id.FileId.{FileId}
 use Rattle.disk_model.specs.Image.{place}
 use Rattle.disk_model.specs.View.{View}
-use Rattle.segment_files.specs.Files.{IsAtGate}
+use Rattle.segment_files.specs.Files.{IsAtGate, then_shut}
 use Rattle.segment_files.specs.Contents.{frame_bytes}
 use Rattle.host_types.specs.Limits.{last_limit}
 use Rattle.segment_files.specs.Parse.{Part, Whole, Framed, frame, is_next, frame_room}
@@ -23,11 +23,11 @@ use Rattle.segment_set.proofs.Growing.{Appendable, folder_id}
 abbrev pub behind : ℕ → Entry → List ℕ
 behind last entry = drop 1 (frame_bytes ((last + 1, entry) ∷ []))
 
-pub behind_is : (last : ℕ) (bytes : List ℕ) (entry : Entry) → IsFrameFor last bytes entry → bytes ≡ 1 ∷ behind last entry
+pub behind_is : (last : ℕ) (bytes : List ℕ) (entry : Entry) → IsFrameFor last bytes entry → bytes ≡ 1 ∷ then_shut (behind last entry)
 behind_is last bytes entry f = f.bytes
 
-pub frame_long : (last : ℕ) (bytes : List ℕ) (entry : Entry) → IsFrameFor last bytes entry → length bytes ≡ frame_size (last + 1) entry
-frame_long last bytes entry f = ap length f.bytes
+pub frame_long : (last : ℕ) (bytes : List ℕ) (entry : Entry) → IsFrameFor last bytes entry → length bytes ≡ frame_size (last + 1) entry + 1
+frame_long last bytes entry f = ap length f.bytes ∙ length-append (frame_bytes ((last + 1, entry) ∷ [])) (0 ∷ [])
 
 -- what it takes to be read back
 follows : (last : ℕ) (bytes : List ℕ) (entry : Entry) → last < last_limit → IsFrameFor last bytes entry → Follows last (last + 1) entry
@@ -40,11 +40,11 @@ follows last bytes entry room f = record {
   most = greatest_size (last + 1) entry f.fits;
 }
 
-pub frame_short : (last : ℕ) (bytes : List ℕ) (entry : Entry) → last < last_limit → IsFrameFor last bytes entry → length bytes ≤ 131077
+pub frame_short : (last : ℕ) (bytes : List ℕ) (entry : Entry) → last < last_limit → IsFrameFor last bytes entry → length bytes ≤ 131078
 frame_short last bytes entry room f =
     let g = follows last bytes entry room f in
     let most = g.most in
-    omega (arith, most, ap length f.bytes, length-one_frame last (last + 1) entry g)
+    omega (arith, most, frame_long last bytes entry f, length-one_frame last (last + 1) entry g)
 
 -- it is read back
 pub frame_back : (last : ℕ) (bytes : List ℕ) (entry : Entry) → last < last_limit → IsFrameFor last bytes entry

@@ -15,7 +15,6 @@ use crate::parts::{GENERATION_LIMIT, Parts, Tail};
 use disk_model::{Disk, DiskFault, FileId};
 use host_types::{Index, LogName};
 use segment_files::{Descriptor, append_frame, make_tail};
-use std::alloc::Global;
 
 /// What stands behind the gate of a new file: the rest of its descriptor, and a shut gate.
 fn behind_gate(id: FileId, size: u32) -> [u8; 64]
@@ -46,7 +45,6 @@ fn make_file<D: Disk>(disk: &mut D, name: &LogName, id: FileId, size: u32) -> Re
 
 /// Appends a frame to the tail, and answers the tail with its entry. A crash at any moment leaves the frame whole or absent.
 fn push_frame<D: Disk>(
-    alloc: Global,
     disk: &mut D,
     name: &LogName,
     tail: Tail,
@@ -65,7 +63,7 @@ fn push_frame<D: Disk>(
     ensures others { IsTrue D.tells → KeepsOthers (D.view disk.old) (D.view disk.new) (place name.now tail.id) }
     ensures cause { HasCause (D.faults disk.old) (D.faults disk.new) result }
 {
-    match append_frame(alloc, disk, name, tail.id, tail.gate, frame) {
+    match append_frame(disk, name, tail.id, tail.gate, frame) {
         Ok(gate) => Ok(Tail {
             id: tail.id,
             last: tail.last + 1,
@@ -144,7 +142,6 @@ impl Parts {
     /// Appends a frame to the tail.
     fn append_to<D: Disk>(
         &mut self,
-        alloc: Global,
         disk: &mut D,
         tail: Tail,
         frame: &[u8],
@@ -166,7 +163,7 @@ impl Parts {
         ensures others { IsTrue D.tells → KeepsNames (D.view disk.old) (D.view disk.new) self.old.name }
         ensures cause { HasCause (D.faults disk.old) (D.faults disk.new) result }
     {
-        match push_frame(alloc, disk, &self.name, tail, frame) {
+        match push_frame(disk, &self.name, tail, frame) {
             Ok(next) => {
                 self.tail = Some(next);
                 Ok(())
@@ -178,7 +175,6 @@ impl Parts {
     /// Makes the first file, and appends a frame to it.
     fn append_first<D: Disk>(
         &mut self,
-        alloc: Global,
         disk: &mut D,
         frame: &[u8],
         size: u32,
@@ -206,7 +202,7 @@ impl Parts {
             Ok(tail) => tail,
             Err(fault) => return Err(fault),
         };
-        match push_frame(alloc, disk, &self.name, tail, frame) {
+        match push_frame(disk, &self.name, tail, frame) {
             Ok(next) => {
                 self.tail = Some(next);
                 Ok(())
@@ -215,11 +211,10 @@ impl Parts {
         }
     }
 
-    /// Appends a frame with the next entry. Where there is no file yet, it makes one of this size first, with the next
+    /// Appends a frame with the next entry, which has the shut gate behind it as its last byte. Where there is no file yet, it makes one of this size first, with the next
     /// generation. A crash at any moment leaves the log without the entry or with it; from an Ok on it is there.
     pub fn append<D: Disk>(
         &mut self,
-        alloc: Global,
         disk: &mut D,
         frame: &[u8],
         size: u32,
@@ -244,8 +239,8 @@ impl Parts {
         ensures cause { HasCause (D.faults disk.old) (D.faults disk.new) result }
     {
         match self.tail {
-            Some(tail) => self.append_to(alloc, disk, tail, frame),
-            None => self.append_first(alloc, disk, frame, size),
+            Some(tail) => self.append_to(disk, tail, frame),
+            None => self.append_first(disk, frame, size),
         }
     }
 }

@@ -1,7 +1,7 @@
 use Rattle.std.proofs.Common.{◌≡◌, ◌++◌, ◌+◌, ◌-◌, ℕ, List, [], ◌∷◌, length, sym, ap, ◌∙◌, arith, length-append}
 use Rattle.std.specs.Int.{w32, to_be_bytes}
 use Rattle.disk_model.specs.Image.{written}
-use Rattle.segment_files.specs.Contents.{body_bytes}
+use Rattle.segment_files.specs.Contents.{body_bytes, lent}
 use Rattle.segment_files.proofs.Writing.{frame_put}
 use Rattle.segment_files.proofs.frames.put_frame.Goals as goal
 
@@ -9,7 +9,7 @@ pub returns-clause-frame : goal.returns-clause-frame
 returns-clause-frame c =
     let old = c.args.out.now.items in
     let out = c.put_entries.new.out.items in
-    let body = body_bytes c.args.entries.now in
+    let body = body_bytes (lent c.args.entries.now) in
     let out_is : out ≡ (old ++ 1 ∷ 0 ∷ 0 ∷ 0 ∷ 0 ∷ []) ++ body = c.in_ok-put_entries.ensures.body ∙ ap (λ (l : List ℕ). l ++ body) c.in_ok-extend_from_slice.ensures.items in
     let long : c.len.result ≡ length out = c.len.ensures ∙ c.put_entries.new.out.ok.0 in
     let count : c.len.result - c.args.start - 5 ≡ length body = omega (arith, long, ap length out_is, length-append (old ++ 1 ∷ 0 ∷ 0 ∷ 0 ∷ 0 ∷ []) body, length-append old (1 ∷ 0 ∷ 0 ∷ 0 ∷ 0 ∷ []), c.requires.start) in

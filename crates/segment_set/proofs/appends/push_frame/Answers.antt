@@ -1,4 +1,4 @@
-use Rattle.std.proofs.Common.{◌≡◌, ◌+◌, ℕ, sym, ap, subst, ◌∙◌, arith}
+use Rattle.std.proofs.Common.{◌≡◌, ◌+◌, ℕ, sym, subst, ◌∙◌, arith}
 use Rattle.disk_model.specs.Image.{place}
 use Rattle.segment_files.specs.Files.{IsAtGate}
 use Rattle.segment_set.specs.Fits.{frame_size}
@@ -33,7 +33,7 @@ returns-in-Ok-clause-grown g c = λ t part entry whole f.
     let bytes = c.args.frame.now in
     let sound = g.met.D.Disk.sound c.args.disk.now t in
     let fits = c.requires.fits t in
-    let next : c.in-Ok.gate ≡ tail.gate + frame_size (tail.last + 1) entry = c.in-Ok.ensures.gate ∙ ap (λ (k : ℕ). tail.gate + k) (frame_long tail.last bytes entry f) in
+    let next : c.in-Ok.gate ≡ tail.gate + frame_size (tail.last + 1) entry = omega (arith, c.in-Ok.ensures.gate, frame_long tail.last bytes entry f) in
     record {
       whole = push_reads v e name tail part bytes entry sound fits whole c.requires.room f (λ b reads. c.in-Ok.ensures.appended t b (behind tail.last entry) (behind_is tail.last bytes entry f) reads);
       last = push_last v e name tail part bytes entry sound fits whole c.requires.room f;
