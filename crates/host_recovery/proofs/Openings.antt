@@ -3,17 +3,13 @@ use Rattle.std.proofs.Common.{◌≡◌, inl, ℕ, zero, suc, ◌+◌, Bool, tru
 use Rattle.std.specs.List.{enumerate_from}
 use Rattle.host_types.specs.declared.entry.Entry.{Entry}
 use Rattle.host_types.specs.Decision.{MachineDecision, MachineIsLawful, MachineHasOneOwner}
-use Rattle.disk_model.specs.Image.{Image, place}
+use Rattle.disk_model.specs.Image.{Image}
 use Rattle.disk_model.specs.View.{View, MayHold, MayLeave, IsSound}
-use Rattle.segment_files.specs.Parse.{Numbered, Part, Found, Whole, parse}
-use Rattle.segment_files.specs.Folder.{Folder, found, folder, entries_of, AreOf, IsChoice, Stands, StandsForPrefix}
-use Rattle.segment_set.specs.declared.parts.Tail.{Tail}
-use Rattle.segment_set.specs.Fits.{Fits, IsHeld, TailFits, bare, log_of, parts_in}
+use Rattle.segment_files.specs.Parse.{Numbered, Part}
+use Rattle.segment_files.specs.Folder.{Folder, folder, entries_of, AreOf, IsChoice, Stands, StandsForPrefix}
+use Rattle.segment_set.specs.Fits.{Fits, IsHeld, bare, log_of, parts_in}
 use Rattle.segment_set.proofs.Images.{nothing, only_one, here}
-use Rattle.segment_files.specs.Contents.{AreNumbered, HasEntries}
-use Rattle.segment_set.proofs.AreLogs.{are_one}
-use Rattle.segment_set.proofs.Loading.{bytes_of_whole}
-use Rattle.segment_set.proofs.Gaining.{whole_plain}
+use Rattle.segment_files.specs.Contents.{AreNumbered}
 use Rattle.log_model.specs.Admission.{Item}
 use Rattle.log_model.specs.Fitting.{ItemsFit}
 use Rattle.log_model.specs.Hosted.{Hosted, hosted_nothing, hosted_entry, hosted_step, hosted_told, hosted_folded, hosted_stored, hosted_stored_from, hosted_quiet, is_hosted_admitted, is_hosted_log_from}
@@ -130,25 +126,11 @@ replay_last telling cut s [] are = omega arith
 replay_last telling cut s (e ∷ es) (next, range, fits, rest) =
     omega (arith, next, replay_last telling cut (replay_entry telling cut s e) es (subst (λ (n : ℕ). AreNumbered n es) (sym next) rest))
 
-long_as : (es : Numbered) → length (bare es) ≡ length es
-long_as [] = refl
-long_as (e ∷ es) = omega (arith, long_as es)
-
--- a part that is read whole and begins with the first entry ends with as many entries as it has
-part_last : (v : View) (name : List ℕ) (tail : Tail) (p : Part) → folder name v.reading tail.id ≡ Whole p → p.last ≡ length p.entries
-part_last v name tail p whole =
-    let are = are_one tail.id p (whole_plain v name tail.id p whole) tail.base_is in
-    let next : p.last + 1 ≡ length (bare p.entries) + 1 = are.tile.2 in
-    omega (arith, next, long_as p.entries)
-
--- what is replayed of a tail ends where the tail does
-pub reaches_last : (v : View) (name : List ℕ) (tail : Tail) (fits : TailFits v name tail) (telling : Telling) (s t : Hosted) (list : Numbered) → s ≡ hosted_nothing → AreNumbered 0 list
-    → ((bytes : List ℕ) → v.reading (place name tail.id) ≡ Some bytes → HasEntries (parse tail.id bytes) list) → t ≡ replay_from telling 0 s list → t.last ≡ tail.last
-reaches_last v name tail fits telling s t list fresh numbered reads is =
-    let b = bytes_of_whole v name tail.id fits.part fits.whole in
-    let same : fits.part.entries ≡ list = subst (λ (f : Found). HasEntries f list) (sym (ap (found tail.id) b.1) ∙ fits.whole) (reads b.0 b.1) in
+-- what is replayed from nothing ends where the entries do
+pub ends_with : (telling : Telling) (s t : Hosted) (list : Numbered) → s ≡ hosted_nothing → AreNumbered 0 list → t ≡ replay_from telling 0 s list → t.last ≡ length list
+ends_with telling s t list fresh are is =
     let from_nothing : t ≡ replay_from telling 0 hosted_nothing list = is ∙ ap (λ (h : Hosted). replay_from telling 0 h list) fresh in
-    omega (arith, ap (λ (h : Hosted). h.last) from_nothing, replay_last telling 0 hosted_nothing list numbered, ap (λ (l : Numbered). length l) same, part_last v name tail fits.part fits.whole, fits.last)
+    omega (arith, ap (λ (h : Hosted). h.last) from_nothing, replay_last telling 0 hosted_nothing list are)
 
 -- ---- the host that was opened
 

@@ -23,12 +23,11 @@ use disk_model::Disk;
 use host_core::Core;
 use host_types::{Entry, Index, LogName, NoMemory};
 use machine::Machine;
-use segment_files::{FileFault, entries};
-use segment_set::{OpenError, Parts, Tail};
+use segment_set::{OpenError, Parts};
 use std::alloc::Global;
 use std::mem;
 
-/// Replays entries, each at the index behind the one before.
+/// Replays entries, each at the index behind the one before, and the first behind the core's last one.
 fn replay_all<M: Machine>(
     alloc: Global,
     core: &mut Core<M>,
@@ -41,71 +40,6 @@ fn replay_all<M: Machine>(
         core.replay(alloc, index, entry, 0)?;
     }
     Ok(())
-}
-
-/// Replays the entries of the tail. Other entries than were counted before are damage.
-fn replay_tail<D: Disk, M: Machine>(
-    alloc: Global,
-    disk: &mut D,
-    core: &mut Core<M>,
-    name: &LogName,
-    tail: Tail,
-) -> Result<(), OpenError>
-    requires fits { IsTrue D.tells → TailFits (D.view disk.old) name.now tail }
-    requires fresh { hosted M.cells core.old ≡ hosted_nothing }
-    ensures state { OnOk result (IsTrue D.tells → (part : Part) → folder name.now (D.view disk.old).reading tail.id ≡ Whole part → hosted M.cells core.new ≡ replayed (hosted_told M.decides) 0 part.entries) }
-    ensures last { OnOk result (core.new.last ≡ tail.last) }
-    ensures damaged { (base generation at : ℕ) → IsErrOf result (OpenError.Damaged base generation at) → (at ≡ 0) × (IsTrue D.tells → ⊥) }
-    ensures stays { IsTrue D.tells → Stays (D.view disk.old) (D.view disk.new) }
-    ensures any_moment { IsTrue D.tells → LeavesAt (D.view disk.old) (D.view disk.new) (MayHold (D.view disk.old)) }
-    ensures cause { HasOpenCause (D.faults disk.old) (D.faults disk.new) result }
-{
-    let list = match entries(alloc, disk, name, tail.id) {
-        Ok(list) => list,
-        Err(FileFault::Failed) => return Err(OpenError::Disk),
-        Err(FileFault::NoMemory) => return Err(OpenError::NoMemory),
-        Err(FileFault::Damaged { .. }) => {
-            return Err(OpenError::Damaged {
-                base: tail.id.base,
-                generation: tail.id.generation,
-                at: 0,
-            });
-        }
-    };
-    match replay_all(alloc, core, list) {
-        Ok(()) => {}
-        Err(_) => return Err(OpenError::NoMemory),
-    }
-    if core.last() != tail.last {
-        return Err(OpenError::Damaged {
-            base: tail.id.base,
-            generation: tail.id.generation,
-            at: 0,
-        });
-    }
-    Ok(())
-}
-
-/// Replays what the files hold.
-fn replay_parts<D: Disk, M: Machine>(
-    alloc: Global,
-    disk: &mut D,
-    core: &mut Core<M>,
-    parts: &Parts,
-) -> Result<(), OpenError>
-    requires fits { IsTrue D.tells → Fits (D.view disk.old) parts.now.name parts.now.tail parts.now.greatest }
-    requires fresh { hosted M.cells core.old ≡ hosted_nothing }
-    ensures state { OnOk result (IsTrue D.tells → hosted M.cells core.new ≡ replayed (hosted_told M.decides) 0 (entries_of (parts_in (D.view disk.old).reading parts.now.name parts.now.tail))) }
-    ensures last { OnOk result (core.new.last ≡ last_of parts.now.tail) }
-    ensures damaged { (base generation at : ℕ) → IsErrOf result (OpenError.Damaged base generation at) → (at ≡ 0) × (IsTrue D.tells → ⊥) }
-    ensures stays { IsTrue D.tells → Stays (D.view disk.old) (D.view disk.new) }
-    ensures any_moment { IsTrue D.tells → LeavesAt (D.view disk.old) (D.view disk.new) (MayHold (D.view disk.old)) }
-    ensures cause { HasOpenCause (D.faults disk.old) (D.faults disk.new) result }
-{
-    match parts.tail {
-        Some(tail) => replay_tail(alloc, disk, core, &parts.name, tail),
-        None => Ok(()),
-    }
 }
 
 /// Opens the files of a name, and replays what they hold.
@@ -133,13 +67,14 @@ fn load<D: Disk, M: Machine>(
     ensures others { IsTrue D.tells → KeepsNames (D.view disk.old) (D.view disk.new) name.now }
     ensures cause { HasOpenCause (D.faults disk.old) (D.faults disk.new) result }
 {
-    let parts = match Parts::load(alloc, disk, name) {
+    let mut entries = Vec::new(alloc);
+    let parts = match Parts::load(alloc, disk, name, &mut entries) {
         Ok(parts) => parts,
         Err(error) => return Err(error),
     };
-    match replay_parts(alloc, disk, core, &parts) {
+    match replay_all(alloc, core, entries) {
         Ok(()) => Ok(parts),
-        Err(error) => Err(error),
+        Err(_) => Err(OpenError::NoMemory),
     }
 }
 

@@ -64,7 +64,3 @@ shut_not id head frames None is = by (appended_walk 0 (id.base - 1) frames) is
     by : (w : Walk) → IsContents id (appended_part id head w) Is_shut → ⊥
     by (Ends entries gate) is = is
     by (Fails place) is = is
-
-pub never_shut : (id : FileId) (bytes : List ℕ) → is_open bytes ≡ true → IsContents id (parse id bytes) Is_shut → ⊥
-never_shut id bytes is shut =
-    shut_not id (take 64 bytes) (drop 64 bytes) (first_wrong (descriptor_fields id) (take 64 bytes)) (subst (λ (f : Found). IsContents id f Is_shut) (open_parse id bytes is) shut)

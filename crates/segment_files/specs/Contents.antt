@@ -89,21 +89,26 @@ IsFound (Is_part scanned) Closed = ⊥
 IsFound (Is_part scanned) (Whole part) = Shows scanned part
 IsFound (Is_part scanned) (Damaged place) = ⊥
 
--- these are the entries of a part
-abbrev pub HasEntries : Found → Numbered → Type 0
-HasEntries Closed entries = ⊥
-HasEntries (Whole part) entries = part.entries ≡ entries
-HasEntries (Damaged place) entries = ⊥
+-- entries behind an index: each is at the next one, and its numbers and texts are as an entry may have them
+abbrev pub AreNumbered : ℕ → Numbered → Type 0
+AreNumbered before [] = Unit {0}
+AreNumbered before (e ∷ entries) = (e.0 ≡ before + 1) × IsInRange e.0 e.1 × EntryFits e.1 × AreNumbered (before + 1) entries
+
+-- where the file is a part, these are its entries
+abbrev pub AreRead : Found → Numbered → Type 0
+AreRead Closed entries = Unit {0}
+AreRead (Whole part) entries = part.entries ≡ entries
+AreRead (Damaged place) entries = Unit {0}
+
+-- A part hands its entries over, in the place of those before; a closed file leaves these.
+abbrev pub HandsOver : ℕ → Answer → Numbered → Numbered → Type 0
+HandsOver base Is_closed old new = new ≡ old
+HandsOver base (Is_part part) old new = AreNumbered (base - 1) new × (length new ≡ part.entries)
 
 abbrev pub IsDamage : Found → Type 0
 IsDamage Closed = ⊥
 IsDamage (Whole part) = ⊥
 IsDamage (Damaged place) = Unit {0}
-
--- entries behind an index: each is at the next one, and its numbers and texts are as an entry may have them
-abbrev pub AreNumbered : ℕ → Numbered → Type 0
-AreNumbered before [] = Unit {0}
-AreNumbered before (e ∷ entries) = (e.0 ≡ before + 1) × IsInRange e.0 e.1 × EntryFits e.1 × AreNumbered (before + 1) entries
 
 -- `Failed` is told only where the disk has failed since
 pub record HasFileCause {T : Type 0} (before now : ℕ) (result : Result T FileFault) : Type 0 where

@@ -13,6 +13,6 @@ mod windows;
 pub use descriptor::Descriptor;
 pub use frames::{FRAME_ROOM, frame};
 pub use gates::{append_frame, open_gate};
-pub use reading::{FileFault, Found, Part, entries, scan};
+pub use reading::{FileFault, Found, Part, scan};
 pub use settle::settle_all;
 pub use tails::{create_closed, fill, make_tail};

@@ -3,11 +3,10 @@ ghost use Rattle.std.specs.Prelude.{◌≡◌, ◌+◌, ◌-◌, ◌<◌, ◌≤
 ghost use Rattle.disk_model.specs.Image.{IsFileId, place};
 ghost use Rattle.disk_model.specs.View.{LeavesAt, MayHold, Reads, IsListed};
 ghost use Rattle.disk_model.specs.Calls.{Looks, Stays};
-ghost use Rattle.segment_files.specs.Files.{is_open};
 ghost use Rattle.host_types.specs.Limits.{last_limit};
 ghost use Rattle.segment_files.specs.Parse.{parse};
 ghost use Rattle.segment_files.specs.declared.reading.FileFault.TheVariants.{NoMemory};
-ghost use Rattle.segment_files.specs.Contents.{AreNumbered, HasEntries, HasNumbered, HasFew, IsBounded, IsLong, IsMeasured, HasFileCause, HasFrames, IsDamage, IsFound, IsHead, IsRead, IsNoDamage, IsWithin, ReadsPiece, file_fault};
+ghost use Rattle.segment_files.specs.Contents.{AreNumbered, AreRead, HandsOver, HasNumbered, HasFew, IsBounded, IsLong, IsMeasured, HasFileCause, HasFrames, IsDamage, IsFound, IsHead, IsRead, IsNoDamage, IsWithin, ReadsPiece, file_fault};
 
 use crate::descriptor::Descriptor;
 use crate::windows::{Walked, read_window};
@@ -267,17 +266,23 @@ fn read_file<D: Disk>(
     }
 }
 
-/// Reads a file, and says what it is. It reads in pieces, each byte once.
+/// Reads a file, and says what it is. It reads in pieces, each byte once, and decodes each entry once: those of a part are
+/// put into `entries`, in order, in the place of what stood there. A file whose gate isn't open leaves `entries` as before.
 pub fn scan<D: Disk>(
     alloc: Global,
     disk: &mut D,
     name: &LogName,
     id: FileId,
+    entries: &mut Vec<(Index, Entry)>,
 ) -> Result<Found, FileFault>
     requires id { IsFileId id }
     requires listed { IsTrue D.tells → IsListed (D.view disk.old) (place name.now id) }
     ensures found { IsTrue D.tells → (bytes : List ℕ) → Reads (D.view disk.old) (place name.now id) bytes
         → IfOk result (λ found. IsFound found (parse id bytes)) }
+    ensures read { IsTrue D.tells → (bytes : List ℕ) → Reads (D.view disk.old) (place name.now id) bytes
+        → OnOk result (AreRead (parse id bytes) entries.new.items) }
+    // Each entry is as one may be, whatever the disk tells.
+    ensures handed { IfOk result (λ found. HandsOver id.base found entries.old.items entries.new.items) }
     ensures damaged { IsTrue D.tells → (bytes : List ℕ) → Reads (D.view disk.old) (place name.now id) bytes
         → (at : ℕ) → IsErrOf result (FileFault.Damaged at) → (at ≡ 0) × IsDamage (parse id bytes) }
     ensures stays { IsTrue D.tells → Stays (D.view disk.old) (D.view disk.new) }
@@ -289,10 +294,11 @@ pub fn scan<D: Disk>(
         Contents::Closed => Ok(Found::Closed),
         Contents::Open {
             descriptor,
-            entries,
+            entries: found,
             gate,
         } => {
-            let count = entries.len() as u64;
+            let count = found.len() as u64;
+            *entries = found;
             Ok(Found::Part(Part {
                 descriptor,
                 last: id.base - 1 + count,
@@ -300,31 +306,5 @@ pub fn scan<D: Disk>(
                 gate,
             }))
         }
-    }
-}
-
-/// The entries of a file whose gate is open, in order, with their indexes.
-pub fn entries<D: Disk>(
-    alloc: Global,
-    disk: &mut D,
-    name: &LogName,
-    id: FileId,
-) -> Result<Vec<(Index, Entry)>, FileFault>
-    requires id { IsFileId id }
-    requires listed { IsTrue D.tells → IsListed (D.view disk.old) (place name.now id) }
-    requires open { IsTrue D.tells → (bytes : List ℕ) → Reads (D.view disk.old) (place name.now id) bytes → IsTrue (is_open bytes) }
-    ensures entries { IsTrue D.tells → (bytes : List ℕ) → Reads (D.view disk.old) (place name.now id) bytes
-        → IfOk result (λ entries. HasEntries (parse id bytes) entries.items) }
-    // Each is as an entry may be, whatever the disk tells.
-    ensures numbered { IfOk result (λ entries. AreNumbered (id.base - 1) entries.items) }
-    ensures damaged { IsTrue D.tells → (bytes : List ℕ) → Reads (D.view disk.old) (place name.now id) bytes
-        → (at : ℕ) → IsErrOf result (FileFault.Damaged at) → (at ≡ 0) × IsDamage (parse id bytes) }
-    ensures stays { IsTrue D.tells → Stays (D.view disk.old) (D.view disk.new) }
-    ensures any_moment { IsTrue D.tells → LeavesAt (D.view disk.old) (D.view disk.new) (MayHold (D.view disk.old)) }
-    ensures cause { HasFileCause (D.faults disk.old) (D.faults disk.new) result }
-{
-    match read_file(alloc, disk, name, id)? {
-        Contents::Closed => Err(FileFault::Damaged { at: 0 }),
-        Contents::Open { entries, .. } => Ok(entries),
     }
 }

@@ -10,6 +10,7 @@ pub mod Picking
 pub mod Surveying
 pub mod Loading
 pub mod Turns
+pub mod Handing
 pub mod Loaded
 pub mod Frames
 pub mod Pushing

@@ -1,17 +1,18 @@
 -- What an opening gives.
 use Rattle.std.proofs.Common.{◌≡◌, ◌≢◌, ◌⊎◌, inl, inr, ⊎_elim, ℕ, ◌≤◌, List, [], ◌∷◌, Option, Some, None, refl, sym, ap, subst, ◌∙◌, Contains}
+use Rattle.std.proofs.lemmas.List.{append-nil}
 use Rattle.disk_model.specs.declared.file_id.FileId.{FileId}
 use Rattle.disk_model.specs.Image.{Place, Image, place}
 use Rattle.disk_model.specs.View.{View, MayHold, IsListed, IsSettled, IsSound, LeavesAt}
 use Rattle.disk_model.specs.Calls.{Lists}
 use Rattle.segment_files.specs.declared.descriptor.Descriptor.{Descriptor}
 use Rattle.segment_files.specs.Files.{HasNames, IsAtGate}
-use Rattle.segment_files.specs.Parse.{Part, Whole}
-use Rattle.segment_files.specs.Folder.{Folder, folder, IsChoice, IsFault}
+use Rattle.segment_files.specs.Parse.{Numbered, Part, Whole}
+use Rattle.segment_files.specs.Folder.{Folder, folder, entries_of, IsChoice, IsFault}
 use Rattle.segment_set.specs.declared.opened.Opened.{Opened}
 use Rattle.segment_set.specs.declared.parts.Tail.{Tail}
 use Rattle.segment_set.specs.Fits.{Fits, IsEmptyWhereNone, IsHeld, part_list, parts_in}
-use Rattle.segment_set.specs.Opening.{Surveyed, OpenedIs, OrGone, IsTailFound, IsGreatestListed, opened_id}
+use Rattle.segment_set.specs.Opening.{AreHanded, AreOpened, Surveyed, OpenedIs, OrGone, IsTailFound, IsGreatestListed, opened_id}
 use Rattle.segment_set.proofs.Growing.{folder_id}
 use Rattle.segment_set.proofs.Loading.{Opens, chosen_one, chosen_none, whole_after, only_opened, gate_after, held_after}
 
@@ -59,6 +60,15 @@ module _ (v0 v1 v2 v3 : View) (name : List ℕ) (ids closed : List FileId) where
       subst (λ (l : List Part). IsChoice (folder name v0.reading) l)
       (sym (list_of_whole (folder name v3.reading) tail.id f.1.0 (ap (folder name v3.reading) f.2.0 ∙ whole3)))
       (chosen_one v0 v1 name ids closed (Some one.id) f.0.lists f.0.read1 f.0.survey one.id f.1.0 refl whole0)
+
+  pub loaded_entries : (opened : Option Opened) (tail : Option Tail) → Facts opened tail → (entries : Numbered) → AreHanded opened entries → AreOpened (folder name v1.reading) opened entries → entries_of (parts_in v3.reading name tail) ≡ entries
+  loaded_entries None None f entries handed read = sym handed
+  loaded_entries None (Some tail) f entries handed read = absurd f.2
+  loaded_entries (Some one) None f entries handed read = absurd f.2
+  loaded_entries (Some one) (Some tail) f entries handed read =
+      let whole0 : folder name v0.reading one.id ≡ Whole f.1.0 = ap (λ (r : Image). folder name r one.id) (sym f.0.read1) ∙ f.1.1 in
+      let whole3 = whole_after v0 v1 v2 v3 name ids closed (Some one.id) f.0 one.id f.1.0 refl whole0 in
+      ap entries_of (list_of_whole (folder name v3.reading) tail.id f.1.0 (ap (folder name v3.reading) f.2.0 ∙ whole3)) ∙ append-nil f.1.0.entries ∙ read f.1.0 f.1.1
 
   pub loaded_held : (opened : Option Opened) (tail : Option Tail) → Facts opened tail → IsEmptyWhereNone v0 name → IsHeld v3 name tail
   loaded_held opened tail f empty = held_after v0 v1 v2 v3 name ids closed (opened_id opened) f.0 (parts_in v3.reading name tail) empty (loaded_choice opened tail f)

@@ -1,11 +1,11 @@
 -- What an opening does to a folder.
-use Rattle.std.specs.Prelude.{◌≡◌, ◌≢◌, ◌<◌, ◌≤◌, ◌⊎◌, ℕ, Bool, IsTrue, List, [], ◌∷◌, ◌++◌, length, get_or, Option, Some, None, Result, IsErrOf, Contains}
+use Rattle.std.specs.Prelude.{◌≡◌, ◌≢◌, ◌<◌, ◌≤◌, ◌⊎◌, ◌-◌, ℕ, Bool, IsTrue, List, [], ◌∷◌, ◌++◌, length, get_or, Option, Some, None, Result, IsErrOf, Contains}
 use Rattle.std.specs.List.{AllPairs}
 use Rattle.disk_model.specs.declared.file_id.FileId.{FileId}
 use Rattle.disk_model.specs.Image.{Place, Image, place}
 use Rattle.disk_model.specs.View.{View, MayHold, MayLeave, IsListed, LeavesAt}
-use Rattle.segment_files.specs.Contents.{Shows}
-use Rattle.segment_files.specs.Parse.{Part, Closed, Whole, Damaged}
+use Rattle.segment_files.specs.Contents.{AreNumbered, Shows}
+use Rattle.segment_files.specs.Parse.{Numbered, Part, Closed, Whole, Damaged}
 use Rattle.segment_files.specs.Folder.{Folder, folder, HasOpen}
 use Rattle.segment_set.specs.declared.opening.OpenError.{OpenError}
 use Rattle.segment_set.specs.declared.opening.OpenError.TheVariants.{Disk as Is_disk}
@@ -64,6 +64,21 @@ opened_id (Some opened) = Some opened.id
 abbrev pub OpenedIs : Folder → Option Opened → Type 0
 OpenedIs files None = Unit {0}
 OpenedIs files (Some opened) = (part : Part) × (files opened.id ≡ Whole part) × Shows opened.part part
+
+-- An open file hands its entries over, in the place of those before; a closed one leaves these.
+abbrev pub HandsOver : Option Opened → Numbered → Numbered → Type 0
+HandsOver None old new = new ≡ old
+HandsOver (Some one) old new = AreNumbered (one.id.base - 1) new × (length new ≡ one.part.entries)
+
+-- these are the entries of the open file, as far as a disk that doesn't tell can show it
+abbrev pub AreHanded : Option Opened → Numbered → Type 0
+AreHanded None entries = entries ≡ []
+AreHanded (Some one) entries = AreNumbered (one.id.base - 1) entries × (length entries ≡ one.part.entries)
+
+-- these are the entries of the open file, if there is one
+abbrev pub AreOpened : Folder → Option Opened → Numbered → Type 0
+AreOpened files None entries = Unit {0}
+AreOpened files (Some one) entries = (part : Part) → files one.id ≡ Whole part → part.entries ≡ entries
 
 -- a file more: the open one, or closed
 abbrev pub Adds : FileId → Option Opened → List FileId → Option Opened → List FileId → Option Opened → Type 0

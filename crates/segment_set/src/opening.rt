@@ -1,20 +1,21 @@
 // A log is opened: all that is read is settled, and what is no part is removed.
-ghost use Rattle.std.specs.Prelude.{◌≡◌, ◌≢◌, ◌≤◌, ◌⊎◌, ℕ, List, Some, None, IsTrue, IfOk, OnOk, IsErrOf, All, Contains};
+ghost use Rattle.std.specs.Prelude.{◌≡◌, ◌≢◌, ◌≤◌, ◌⊎◌, ℕ, List, [], length, Some, None, IsTrue, IfOk, OnOk, IsErrOf, All, Contains};
 ghost use Rattle.host_types.specs.declared.entry.Entry.{Entry};
 ghost use Rattle.disk_model.specs.declared.file_id.FileId.{FileId};
 ghost use Rattle.disk_model.specs.Image.{IsFileId, place};
 ghost use Rattle.disk_model.specs.View.{LeavesAt, LeavesOnly, MayHold, IsListed};
 ghost use Rattle.disk_model.specs.Calls.{Lists, Stays};
 ghost use Rattle.segment_files.specs.Parse.{Closed};
-ghost use Rattle.segment_files.specs.Folder.{folder, HasOpen, IsChoice, IsDamaged, IsFault, IsFirstDamaged, StandsForPrefix};
-ghost use Rattle.segment_set.specs.Fits.{Fits, IsEmptyWhereNone, IsHeld, IsInOrder, KeepsNames, parts_in};
-ghost use Rattle.segment_set.specs.Opening.{Adds, HasOpenCause, IsGreatestListed, IsLooked, IsOf, IsSeenDamaged, IsTailFound, OpenedIs, Surveyed, id_from, opened_id};
+ghost use Rattle.segment_files.specs.Contents.{AreNumbered};
+ghost use Rattle.segment_files.specs.Folder.{folder, entries_of, HasOpen, IsChoice, IsDamaged, IsFault, IsFirstDamaged, StandsForPrefix};
+ghost use Rattle.segment_set.specs.Fits.{Fits, IsEmptyWhereNone, IsHeld, IsInOrder, KeepsNames, last_of, parts_in};
+ghost use Rattle.segment_set.specs.Opening.{Adds, AreHanded, AreOpened, HandsOver, HasOpenCause, IsGreatestListed, IsLooked, IsOf, IsSeenDamaged, IsTailFound, OpenedIs, Surveyed, id_from, opened_id};
 
 use crate::opened::Opened;
 use crate::parts::{Parts, Tail};
 use crate::removals::remove_all;
 use disk_model::{Disk, DiskFault, FileId};
-use host_types::{LogName, NoMemory};
+use host_types::{Entry, Index, LogName, NoMemory};
 use segment_files::{FileFault, Found, scan, settle_all};
 use std::alloc::Global;
 
@@ -76,17 +77,21 @@ fn disk_error(fault: DiskFault) -> OpenError
     }
 }
 
-/// Reads one file: its part, or none where it is closed. A second open file counts as damaged.
+/// Reads one file: its part, whose entries are put into `entries`, or none where it is closed. A second open file counts
+/// as damaged.
 fn look<D: Disk>(
     alloc: Global,
     disk: &mut D,
     name: &LogName,
     id: FileId,
     has_open: bool,
+    entries: &mut Vec<(Index, Entry)>,
 ) -> Result<Option<Opened>, OpenError>
     requires id { IsFileId id }
     requires listed { IsTrue D.tells → IsListed (D.view disk.old) (place name.now id) }
     ensures looked { IfOk result (λ opened. IsTrue D.tells → IsLooked (folder name.now (D.view disk.old).reading) id opened) }
+    ensures handed { IfOk result (λ opened. HandsOver opened entries.old.items entries.new.items) }
+    ensures read { IfOk result (λ opened. IsTrue D.tells → AreOpened (folder name.now (D.view disk.old).reading) opened entries.new.items) }
     ensures second { IsTrue has_open → IfOk result (λ opened. opened ≡ None) }
     ensures damaged { (base generation at : ℕ) → IsErrOf result (OpenError.Damaged base generation at)
         → IsOf base generation at id × (IsTrue D.tells → IsSeenDamaged (folder name.now (D.view disk.old).reading) id has_open) }
@@ -94,7 +99,7 @@ fn look<D: Disk>(
     ensures any_moment { IsTrue D.tells → LeavesAt (D.view disk.old) (D.view disk.new) (MayHold (D.view disk.old)) }
     ensures cause { HasOpenCause (D.faults disk.old) (D.faults disk.new) result }
 {
-    match scan(alloc, disk, name, id) {
+    match scan(alloc, disk, name, id, entries) {
         Ok(Found::Closed) => Ok(None),
         Ok(Found::Part(part)) => {
             if has_open {
@@ -108,17 +113,21 @@ fn look<D: Disk>(
     }
 }
 
-/// Reads all files of a name, one after the other.
+/// Reads all files of a name, one after the other, and puts the entries of the open one into `entries`.
 fn read_all<D: Disk>(
     alloc: Global,
     disk: &mut D,
     name: &LogName,
     ids: &[FileId],
+    entries: &mut Vec<(Index, Entry)>,
 ) -> Result<Survey, OpenError>
     requires ids { All IsFileId ids.now }
+    requires none { entries.old.items ≡ [] }
     requires lists { IsTrue D.tells → Lists (D.view disk.old) name.now ids.now }
     ensures surveyed { IfOk result (λ found. IsTrue D.tells → Surveyed (folder name.now (D.view disk.old).reading) ids.now found.closed.items (opened_id found.opened)) }
     ensures opened { IfOk result (λ found. IsTrue D.tells → OpenedIs (folder name.now (D.view disk.old).reading) found.opened) }
+    ensures handed { IfOk result (λ found. AreHanded found.opened entries.new.items) }
+    ensures read { IfOk result (λ found. IsTrue D.tells → AreOpened (folder name.now (D.view disk.old).reading) found.opened entries.new.items) }
     ensures closed { IfOk result (λ found. All IsFileId found.closed.items) }
     ensures damaged { (base generation at : ℕ) → IsErrOf result (OpenError.Damaged base generation at)
         → (at ≡ 0) × (IsTrue D.tells → IsFirstDamaged (folder name.now (D.view disk.old).reading) (id_from base generation)) }
@@ -131,7 +140,7 @@ fn read_all<D: Disk>(
         closed: Vec::new(alloc),
     };
     for id in ids {
-        let one = match look(alloc, disk, name, *id, found.opened.is_some()) {
+        let one = match look(alloc, disk, name, *id, found.opened.is_some(), entries) {
             Ok(one) => one,
             Err(error) => return Err(error),
         };
@@ -180,13 +189,25 @@ fn greatest_of(ids: &[FileId]) -> u64
 impl Parts {
     /// Opens the log of a name: lists its files, syncs each, reads them all, and removes those whose gate isn't open. What is
     /// read after the syncs is what every crash leaves from then on. Where it answers `Damaged` no file has been removed.
-    pub fn load<D: Disk>(alloc: Global, disk: &mut D, name: &LogName) -> Result<Parts, OpenError>
+    /// The log's entries are put into `entries`, which has none before, in order; each was decoded once.
+    pub fn load<D: Disk>(
+        alloc: Global,
+        disk: &mut D,
+        name: &LogName,
+        entries: &mut Vec<(Index, Entry)>,
+    ) -> Result<Parts, OpenError>
+        requires none { entries.old.items ≡ [] }
         ensures name { IfOk result (λ parts. parts.name ≡ name.now) }
         // What was read is what is held, with no closed file beside it.
         ensures fits { IfOk result (λ parts. IsTrue D.tells → Fits (D.view disk.new) name.now parts.tail parts.greatest) }
         ensures choice { IfOk result (λ parts. IsTrue D.tells → IsChoice (folder name.now (D.view disk.old).reading) (parts_in (D.view disk.new).reading name.now parts.tail)) }
         ensures held { IfOk result (λ parts. IsTrue D.tells → IsEmptyWhereNone (D.view disk.old) name.now → IsHeld (D.view disk.new) name.now parts.tail) }
         ensures greatest { IfOk result (λ parts. IsTrue D.tells → IsGreatestListed (D.view disk.old) name.now parts.greatest) }
+
+        // The entries of the parts; over every disk each is as one may be, and they end where the parts do.
+        ensures entries { IfOk result (λ parts. IsTrue D.tells → entries_of (parts_in (D.view disk.new).reading name.now parts.tail) ≡ entries.new.items) }
+        ensures numbered { OnOk result (AreNumbered 0 entries.new.items) }
+        ensures last { IfOk result (λ parts. last_of parts.tail ≡ length entries.new.items) }
 
         // A damaged file is named by its cause, and the files are as they were.
         ensures damaged { (base generation at : ℕ) → IsErrOf result (OpenError.Damaged base generation at)
@@ -206,7 +227,7 @@ impl Parts {
             Ok(ids) => ids,
             Err(fault) => return Err(disk_error(fault)),
         };
-        let found = match read_all(alloc, disk, name, &ids) {
+        let found = match read_all(alloc, disk, name, &ids, entries) {
             Ok(found) => found,
             Err(error) => return Err(error),
         };

@@ -8,7 +8,8 @@ use Rattle.segment_set.specs.declared.opening.OpenError.TheVariants.{Damaged}
 use Rattle.segment_set.specs.Opening.{AreListed, OpenedIs, OrGone, Surveyed, id_from, opened_id}
 use Rattle.segment_set.proofs.Picking.{in_order, like_at_first, like_still, like_removed}
 use Rattle.segment_set.proofs.Loading.{closed_listed}
-use Rattle.segment_set.proofs.Loaded.{opens_by, loaded_choice, loaded_fits, loaded_held, loaded_greatest, unbased}
+use Rattle.segment_set.proofs.Handing.{last_handed, numbered_handed}
+use Rattle.segment_set.proofs.Loaded.{opens_by, loaded_choice, loaded_entries, loaded_fits, loaded_held, loaded_greatest, unbased}
 use Rattle.segment_set.proofs.Turns.{closed_then, found_id, listed_again}
 use Rattle.segment_set.proofs.Emptied.{empty_stays, emptied}
 use Rattle.segment_set.proofs.Faultless.{surveyed_no_fault}
@@ -115,6 +116,27 @@ returns-in-Ok-remove_all-clause-choice g c = λ t.
     (c.in-Ok-read_all.ensures.surveyed t) (c.remove_all.ensures.any_moment t) (c.in-Ok-remove_all.ensures.gone t) (c.remove_all.ensures.others t)
     (g.met.D.Disk.sound c.settle_all.new.disk t) (g.met.D.Disk.sound c.read_all.new.disk t) (g.met.D.Disk.sound c.remove_all.new.disk t) in
     loaded_choice v0 v1 v2 v3 name items found.closed.items found.opened c.in-Ok-tail_of.tail (opens, c.in-Ok-read_all.ensures.opened t, c.in-Ok-tail_of.ensures.ok)
+
+pub returns-in-Ok-remove_all-clause-entries : goal.returns-in-Ok-remove_all-clause-entries
+returns-in-Ok-remove_all-clause-entries g c = λ t.
+    let v0 = g.D.Disk.view c.args.disk.now in
+    let v1 = g.D.Disk.view c.settle_all.new.disk in
+    let v2 = g.D.Disk.view c.read_all.new.disk in
+    let v3 = g.D.Disk.view c.remove_all.new.disk in
+    let name = c.args.name.now in
+    let items = c.in-Ok.ids.items in
+    let found = c.in-Ok-read_all.found in
+    let opens = opens_by v0 v1 v2 v3 name items c.deref.result.now found.closed.items c.deref-2.result.now (opened_id found.opened) c.deref.ensures.value c.deref-2.ensures.value
+    (c.in-Ok.ensures.lists t) (c.settle_all.ensures.reading t) (c.in-Ok.ensures.settled t) (c.in-Ok.ensures.names t) (c.settle_all.ensures.any_moment t) (c.read_all.ensures.reading t) (c.read_all.ensures.any_moment t)
+    (c.in-Ok-read_all.ensures.surveyed t) (c.remove_all.ensures.any_moment t) (c.in-Ok-remove_all.ensures.gone t) (c.remove_all.ensures.others t)
+    (g.met.D.Disk.sound c.settle_all.new.disk t) (g.met.D.Disk.sound c.read_all.new.disk t) (g.met.D.Disk.sound c.remove_all.new.disk t) in
+    loaded_entries v0 v1 v2 v3 name items found.closed.items found.opened c.in-Ok-tail_of.tail (opens, c.in-Ok-read_all.ensures.opened t, c.in-Ok-tail_of.ensures.ok) c.read_all.new.entries.items c.in-Ok-read_all.ensures.handed (c.in-Ok-read_all.ensures.read t)
+
+pub returns-in-Ok-remove_all-clause-numbered : goal.returns-in-Ok-remove_all-clause-numbered
+returns-in-Ok-remove_all-clause-numbered g c = numbered_handed c.in-Ok-read_all.found.opened c.in-Ok-tail_of.tail c.read_all.new.entries.items c.in-Ok-tail_of.ensures.ok c.in-Ok-read_all.ensures.handed
+
+pub returns-in-Ok-remove_all-clause-last : goal.returns-in-Ok-remove_all-clause-last
+returns-in-Ok-remove_all-clause-last g c = last_handed c.in-Ok-read_all.found.opened c.in-Ok-tail_of.tail c.read_all.new.entries.items c.in-Ok-tail_of.ensures.ok c.in-Ok-read_all.ensures.handed
 
 pub returns-in-Ok-remove_all-clause-held : goal.returns-in-Ok-remove_all-clause-held
 returns-in-Ok-remove_all-clause-held g c = λ t empty.
