@@ -7,15 +7,9 @@ mod catalog;
 mod closing;
 mod ending;
 mod held;
-#[cfg(test)]
-mod host_tests;
 mod lines;
 mod program;
 mod reader;
-#[cfg(test)]
-mod session_tests;
-#[cfg(test)]
-mod tests;
 mod texts;
 mod turns;
 mod unopened;

@@ -10,6 +10,3 @@ pub use fault::ReadFault;
 pub use laws::{bounded_size, one_spelling, read_again};
 pub use reading::read;
 pub use writing::write;
-
-#[cfg(test)]
-mod tests;

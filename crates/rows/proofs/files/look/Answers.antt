@@ -2,7 +2,7 @@ use Rattle.std.proofs.Common.{◌∙◌, ◌≡◌, ◌&&◌, List, get_or, ap, 
 use Rattle.std.proofs.lemmas.Bool.{and_parts, eqb-true}
 use Rattle.disk_model.specs.declared.file_id.FileId.{FileId}
 use Rattle.disk_model.specs.Image.{Image, place}
-use Rattle.copycat_tool.proofs.tests.look.Goals as goal
+use Rattle.rows.proofs.files.look.Goals as goal
 
 same_ids : (a b : FileId) → nat_eq a.base b.base && nat_eq a.generation b.generation ≡ true → a ≡ b
 same_ids a b hit =
