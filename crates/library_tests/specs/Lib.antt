@@ -1,0 +1,5 @@
+pub mod Desks
+pub mod Machines
+pub mod Mute
+pub mod Tally
+pub mod TallyLaws
