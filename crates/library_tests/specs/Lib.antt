@@ -1,5 +1,2 @@
 pub mod Desks
 pub mod Machines
-pub mod Mute
-pub mod Tally
-pub mod TallyLaws

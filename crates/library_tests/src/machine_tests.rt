@@ -1,4 +1,4 @@
-// The traits, met by a small counter and a machine without names, and used through their bounds.
+// The traits, used through their bounds alone: what holds of whatever resources and machines.
 ghost use Rattle.std.specs.Prelude.{◌≡◌, ℕ, [], false};
 ghost use Rattle.commit_lending.specs.Lent.{tokens};
 ghost use Rattle.host_types.specs.Cells.{Cells, places_of, is_create};
@@ -10,20 +10,15 @@ ghost use Rattle.host_types.specs.declared.entry.Reply.{Reply as AnyReply};
 ghost use Rattle.machine.specs.Release.{AreOut, Releases};
 ghost use Rattle.library_tests.specs.Machines.{held_by_both};
 
-mod mute;
-mod tally;
-
-use crate::asks::{Ask, Say};
+use crate::asks::Say;
 use crate::checks::{closed, key, same};
 use crate::machines::{listed, shows, store};
-use crate::resources::{Life, lives};
 use commit_lending::Lender;
-use host_types::{Effect, Event, Index, Kind, Op};
+use host_types::{Effect, Event, Index, Op};
 use machine::{Machine, Refuse, Resource, Told};
-use mute::Mute;
+use resource_catalog::Catalog;
 use std::alloc::Global;
 use std::process::Abort;
-use tally::Tally;
 
 /// What a resource decides is never a new name: by the law of the bound.
 fn never_creates<R: Resource>()
@@ -43,23 +38,6 @@ fn forget_both<A: Resource, B: Resource>(
 {
     first.forget_owner(owner, by, lender);
     second.forget_owner(owner, by, lender);
-}
-
-const TWO: Life = Life {
-    rows: &[
-        (Ask::Reset(3), Say::Nothing),
-        (Ask::Reset(-4), Say::Nothing),
-    ],
-    get: Say::Number(-4),
-    size: Say::Kind(Kind::Counter),
-    closed: &[(1, 2)],
-};
-
-#[test]
-fn a_resource_is_used_through_its_bound(rt: HostRuntime) {
-    let cells = lives(&rt, rt.alloc(), Tally::new(5), &TWO);
-    same(&rt, cells.len(), 1);
-    drop(cells);
 }
 
 /// One effect as entry 6, what is seen then, the end of a session, and the end.
@@ -86,7 +64,7 @@ fn use_machine<M: Machine>(rt: &impl Abort, alloc: Global, mut machine: M, lende
 #[test]
 fn a_machine_is_used_through_its_bound(rt: HostRuntime) {
     let mut lender = Lender::new(rt.alloc());
-    use_machine(&rt, rt.alloc(), Mute, &mut lender);
+    use_machine(&rt, rt.alloc(), Catalog::new(rt.alloc()), &mut lender);
     let pairs = closed(&rt, rt.alloc(), &mut lender);
     same(&rt, pairs.as_slice(), &[(6, 6)]);
     drop(pairs);
