@@ -3,8 +3,6 @@
 
 mod commit;
 mod lender;
-#[cfg(test)]
-mod tests;
 
 pub use commit::Commit;
 pub use lender::Lender;

@@ -6,7 +6,5 @@
 mod disk;
 mod names;
 mod steps;
-#[cfg(test)]
-mod tests;
 
 pub use disk::FileDisk;

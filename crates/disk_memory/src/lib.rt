@@ -9,8 +9,6 @@ mod outcome;
 mod schedule;
 mod steps;
 mod sure;
-#[cfg(test)]
-mod tests;
 mod versions;
 
 pub use memory::MemoryDisk;

@@ -5,8 +5,6 @@ mod batch;
 mod client;
 mod events;
 mod queue;
-#[cfg(test)]
-mod tests;
 
 ghost use Rattle.event_batches.specs.Serving.{BatchesAreLinked, ClientTakesAll, ClientTakesRun, KeepsTheRest};
 

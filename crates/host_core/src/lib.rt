@@ -7,6 +7,3 @@ mod state;
 
 pub use deciding::{DecideError, Decided};
 pub use state::{Core, Prepared};
-
-#[cfg(test)]
-mod tests;

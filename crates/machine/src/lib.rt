@@ -7,8 +7,6 @@ mod held;
 mod machine;
 mod place;
 mod resource;
-#[cfg(test)]
-mod tests;
 mod told;
 
 pub use decision::{Decision, Refuse};

@@ -13,6 +13,5 @@ pub mod PlainLaws
 pub mod PlainLogs
 pub mod Released
 pub mod Search
-pub mod TestLemmas
 pub mod Texts
 pub mod Whole

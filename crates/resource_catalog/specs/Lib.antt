@@ -6,4 +6,3 @@ pub mod PlainNames
 pub mod Seen
 pub mod Sorted
 pub mod Steps
-pub mod TestSteps

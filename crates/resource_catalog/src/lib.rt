@@ -12,8 +12,6 @@ mod kinds;
 mod names;
 mod slots;
 mod sorted;
-#[cfg(test)]
-mod tests;
 
 pub use catalog::Catalog;
 pub use kinds::{AnyResource, is_built, kinds_are_plain};

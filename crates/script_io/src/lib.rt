@@ -6,8 +6,6 @@ mod memory;
 mod sink;
 mod source;
 mod sure;
-#[cfg(test)]
-mod tests;
 
 pub use adapters::{ReadSource, WriteSink};
 pub use memory::{MemorySink, MemorySource};

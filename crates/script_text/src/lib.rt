@@ -18,5 +18,3 @@ pub use printed::Printed;
 pub use printing::print;
 pub use reading::read_line;
 
-#[cfg(test)]
-mod tests;

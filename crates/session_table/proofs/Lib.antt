@@ -5,4 +5,3 @@ pub mod Walks
 pub mod Holding
 pub mod Commits
 pub mod CellSteps
-pub mod TestLaws

@@ -7,4 +7,3 @@ pub mod Asked
 pub mod Places
 pub mod Rows
 pub mod Inside
-pub mod TestSteps

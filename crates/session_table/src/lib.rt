@@ -5,8 +5,6 @@ mod open_session;
 mod order;
 mod replies;
 mod sessions;
-#[cfg(test)]
-mod tests;
 mod view;
 
 pub use sessions::Sessions;

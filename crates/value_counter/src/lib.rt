@@ -7,8 +7,6 @@ ghost use Rattle.value_counter.specs.Reading.{value_decision, counter_decision};
 
 mod counter;
 mod one;
-#[cfg(test)]
-mod tests;
 mod value;
 
 pub use counter::CounterCell;
