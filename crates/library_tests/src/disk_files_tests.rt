@@ -1,5 +1,6 @@
 // The disk on real files. Each test has a log's name of its own, and clears up.
 use crate::checks::{log_name, same};
+use crate::counted_files::{CountedFiles, Counts};
 use disk_files::FileDisk;
 use disk_model::{Disk, DiskFault, FileId};
 use host_types::LogName;
@@ -166,4 +167,65 @@ fn forgets_what_is_removed(rt: HostRuntime) {
     clear(&rt, GONE);
     forget(&rt);
     clear(&rt, GONE);
+}
+
+const SYNCED: &[&str] = &["synced-1-1.log", "synced-3-2.log"];
+
+/// A sync of the first file is answered so, and bytes and folders were synced so often by then.
+fn syncs<R: Files + AllocGlobal>(
+    rt: &impl Abort,
+    disk: &mut FileDisk<'_, R>,
+    counts: &Counts,
+    wanted: (Result<(), DiskFault>, (u64, u64)),
+) {
+    let name = log_name(rt, b"synced");
+    same(rt, disk.sync(&name, FIRST), wanted.0);
+    same(rt, counts.told(), wanted.1);
+}
+
+/// Files are written, created and removed, with a sync of the first after each.
+fn settle<R: Files + AllocGlobal>(rt: &impl Abort, disk: &mut FileDisk<'_, R>, counts: &Counts) {
+    let name = log_name(rt, b"synced");
+    same(rt, disk.create(&name, FIRST), Ok(()));
+    syncs(rt, disk, counts, (Ok(()), (1, 1)));
+    same(rt, disk.write_at(&name, FIRST, 0, b"x"), Ok(()));
+    syncs(rt, disk, counts, (Ok(()), (2, 1)));
+    same(rt, disk.create(&name, SECOND), Ok(()));
+    syncs(rt, disk, counts, (Ok(()), (3, 2)));
+    same(rt, disk.remove(&name, SECOND), Ok(()));
+    syncs(rt, disk, counts, (Ok(()), (4, 3)));
+}
+
+/// A folder whose sync failed is synced again, though nothing was created since.
+fn settle_again<R: Files + AllocGlobal>(
+    rt: &impl Abort,
+    disk: &mut FileDisk<'_, R>,
+    counts: &Counts,
+) {
+    let name = log_name(rt, b"synced");
+    same(rt, disk.create(&name, SECOND), Ok(()));
+    counts.fail(true);
+    syncs(rt, disk, counts, (Err(DiskFault::Failed), (5, 3)));
+    counts.fail(false);
+    syncs(rt, disk, counts, (Ok(()), (6, 4)));
+    syncs(rt, disk, counts, (Ok(()), (7, 4)));
+}
+
+fn count_syncs<R: Files + AllocGlobal + Abort>(rt: &R) {
+    let counts = Counts::new();
+    let counted = CountedFiles {
+        rt,
+        counts: &counts,
+    };
+    let mut disk = FileDisk::new(&counted);
+    settle(rt, &mut disk, &counts);
+    settle_again(rt, &mut disk, &counts);
+    drop(disk);
+}
+
+#[test]
+fn syncs_the_folder_where_it_changed(rt: HostRuntime) {
+    clear(&rt, SYNCED);
+    count_syncs(&rt);
+    clear(&rt, SYNCED);
 }

@@ -8,6 +8,8 @@ mod checks;
 #[cfg(test)]
 mod commit_lending_tests;
 #[cfg(test)]
+mod counted_files;
+#[cfg(test)]
 mod disk_files_tests;
 #[cfg(test)]
 mod disk_memory_tests;
