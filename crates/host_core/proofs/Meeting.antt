@@ -24,12 +24,12 @@ use Rattle.log_model.specs.Cells.{after}
 use Rattle.log_model.proofs.Sounds.{each_weaker, each_found}
 use Rattle.session_table.specs.declared.view.SessionView.{SessionView}
 use Rattle.session_table.specs.Asked.{NewerReply}
-use Rattle.session_table.specs.Table.{Beside, Table, ids, alive_at, confirmed_of, view_of, view_at, session_at}
+use Rattle.session_table.specs.Table.{Beside, Table, ids, alive_at, beside_changed, confirmed_of, view_of, view_at, session_at}
 use Rattle.session_table.specs.Places.{cells_of, table_cells}
-use Rattle.host_core.specs.Entering.{AreKeptBefore, Entered, IsOut, Meets, has_owner}
+use Rattle.host_core.specs.Entering.{AreKeptBefore, Entered, IsOut, Meets, beside_after, has_owner}
 use Rattle.host_core.proofs.Parts.{at_sessions}
 use Rattle.host_core.proofs.Standing.{places-append, commit_out, machine_out, table_out}
-use Rattle.host_core.proofs.Tables.{found_stands, not_heard, ended, not_ended}
+use Rattle.host_core.proofs.Tables.{found_stands, not_heard, not_changed, ended, not_ended}
 
 module _ (index : ℕ) (machine : Cells) (table : Table) (lent : Lent) (m : Meets index machine table lent) where
   abbrev all : Cells
@@ -113,14 +113,21 @@ module _ (index : ℕ) (machine : Cells) (table : Table) (lent : Lent) (m : Meet
   pub alive_stays : (id time seq event : ℕ) → session_in id table.sessions ≡ None → table_cells table ≡ after (table_cells table) index (record { time = time; body = Alive id seq event })
   alive_stays id time seq event none = not_heard (table_cells table) index time id seq event (table_stands id ∙ ap is_some none)
 
-  -- the end of a session that isn't open
-  pub end_stays : (id time : ℕ) (expired : Bool) → session_in id table.sessions ≡ None → table_cells table ≡ after (table_cells table) index (record { time = time; body = Close id expired })
-  end_stays id time expired none =
-      ap cells_of (sym (not_ended table.beside id (false_from_ne_true (is_some (find (λ (b : Beside). b.id == id) table.beside)) (λ e.
+  not_beside : (id : ℕ) → session_in id table.sessions ≡ None → is_some (find (λ (b : Beside). b.id == id) table.beside) ≡ false
+  not_beside id none = false_from_ne_true (is_some (find (λ (b : Beside). b.id == id) table.beside)) (λ e.
       let placed = found_stands id table.beside e in
       let shut = table_stands id ∙ ap is_some none in
-      absurd (cc)))))
-      ∙ ended id expired table.beside index time
+      absurd (cc))
+
+  pub alive_stays_beside : (id : ℕ) (f : Beside → Beside) → session_in id table.sessions ≡ None → table.beside ≡ beside_changed id f table.beside
+  alive_stays_beside id f none = not_changed table.beside id f (not_beside id none)
+
+  -- the end of a session that isn't open
+  pub end_stays_beside : (id : ℕ) → session_in id table.sessions ≡ None → table.beside ≡ filter (λ (b : Beside). not (b.id == id)) table.beside
+  end_stays_beside id none = sym (not_ended table.beside id (not_beside id none))
+
+  pub end_stays : (id time : ℕ) (expired : Bool) → session_in id table.sessions ≡ None → table_cells table ≡ after (table_cells table) index (record { time = time; body = Close id expired })
+  end_stays id time expired none = ap cells_of (end_stays_beside id none) ∙ ended id expired table.beside index time
 
 -- ---- one session
 
@@ -261,29 +268,32 @@ module _ (index time cut : ℕ) (machine : Cells) (table : Table) (lent : Lent) 
   Done b machine' table' lent' = Entered index (record { time = time; body = b }) cut machine machine' table table' lent'
 
   pub entered_register : (timeout : ℕ) (table' : Table) → table'.sessions ≡ table.sessions ++ new_session index time timeout ∷ [] → table_cells table' ≡ after (table_cells table) index (record { time = time; body = Register timeout })
-      → ((j : ℕ) → places_of (table_cells table') j ≡ places_of (table_cells table) j + one_of index j) → Done (Register timeout) machine table' lent
-  entered_register timeout table' sessions table_is places = record {
+      → ((j : ℕ) → places_of (table_cells table') j ≡ places_of (table_cells table) j + one_of index j) → table'.beside ≡ beside_after index (Register timeout) table.beside → Done (Register timeout) machine table' lent
+  entered_register timeout table' sessions table_is places beside = record {
     machine_is = refl;
     table_is = table_is;
     sessions_are = sessions;
+    beside_is = beside;
     out = λ j. (let all = m.out j in let more = places j in omega (arith, all, more));
   }
 
   pub entered_close : (session : ℕ) (expired : Bool) (machine' : Cells) (table' : Table) (lent' : Lent) → machine' ≡ without_owner session machine → table'.sessions ≡ filter (λ (x : Session). not (x.id == session)) table.sessions
-      → table_cells table' ≡ after (table_cells table) index (record { time = time; body = Close session expired }) → IsOut machine' table' lent' → Done (Close session expired) machine' table' lent'
-  entered_close session expired machine' table' lent' machine_is sessions table_is out = record {
+      → table_cells table' ≡ after (table_cells table) index (record { time = time; body = Close session expired }) → table'.beside ≡ beside_after index (Close session expired) table.beside → IsOut machine' table' lent' → Done (Close session expired) machine' table' lent'
+  entered_close session expired machine' table' lent' machine_is sessions table_is beside out = record {
     machine_is = machine_is;
     table_is = table_is;
     sessions_are = sessions ∙ sym (untold cut index (filter (λ (x : Session). not (x.id == session)) table.sessions));
+    beside_is = beside;
     out = out;
   }
 
   pub entered_command : (session seq : ℕ) (f : Effect) (reply : Reply) (machine' : Cells) (table' : Table) (lent' : Lent)
       → machine' ≡ machine_after (machine ++ table_cells table) index (Command session seq f reply) machine
-      → table'.sessions ≡ changed session (replay_reply cut seq index reply) table.sessions → table_cells table' ≡ table_cells table → IsOut machine' table lent' → Done (Command session seq f reply) machine' table' lent'
-  entered_command session seq f reply machine' table' lent' machine_is sessions table_is out = record {
+      → table'.sessions ≡ changed session (replay_reply cut seq index reply) table.sessions → table'.beside ≡ table.beside → IsOut machine' table lent' → Done (Command session seq f reply) machine' table' lent'
+  entered_command session seq f reply machine' table' lent' machine_is sessions beside out = record {
     machine_is = machine_is;
-    table_is = table_is;
+    table_is = ap cells_of beside;
     sessions_are = sessions ∙ ap (changed session (replay_reply cut seq index reply)) (sym (untold cut index table.sessions));
-    out = λ j. out j ∙ ap (λ c. places_of machine' j + places_of c j) (sym table_is);
+    beside_is = beside;
+    out = λ j. out j ∙ ap (λ bs. places_of machine' j + places_of (cells_of bs) j) (sym beside);
   }

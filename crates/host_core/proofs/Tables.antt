@@ -11,7 +11,7 @@ use Rattle.host_types.specs.declared.entry.Body.TheVariants.{Alive, Close}
 use Rattle.host_types.specs.Cells.{Place, Register_at, Alive_at, Held, marked, place_cmp, Cells, at, stands, is_owned_by}
 use Rattle.log_model.specs.Cells.{covers, is_covered, uncovered, is_session_place, after}
 use Rattle.log_model.proofs.Places.{place_total}
-use Rattle.session_table.specs.Table.{Beside}
+use Rattle.session_table.specs.Table.{Beside, beside_changed}
 use Rattle.session_table.specs.Places.{alive_place, cells_of}
 
 abbrev registers : List Beside → Cells
@@ -173,3 +173,12 @@ found_stands s bs e = go bs (each_stands bs) e
           | true ↦ λ q g. subst (λ n. stands (cells_of bs) (Register_at n) ≡ true) (eqb-true b.id s q) a.0
           | false ↦ λ q g. go xs a.1 g
         ] refl f
+
+-- a keep-alive of one that is none of them
+pub not_changed : (bs : List Beside) (s : ℕ) (f : Beside → Beside) → is_some (find (λ b. b.id == s) bs) ≡ false → bs ≡ beside_changed s f bs
+not_changed [] s f e = refl
+not_changed (b ∷ bs) s f e =
+    elim (b.id == s) as (λ q. is_some (cond q (Some b) (find (λ b. b.id == s) bs)) ≡ false → b ∷ bs ≡ cond q (f b) b ∷ beside_changed s f bs) [
+      | true ↦ λ g. absurd (cc)
+      | false ↦ λ g. ap (λ (r : List Beside). b ∷ r) (not_changed bs s f g)
+    ] e

@@ -1,11 +1,11 @@
 -- What an entry does to a machine, to the sessions and to a lender.
-use Rattle.std.specs.Prelude.{◌≡◌, ℕ, ◌+◌, ◌≤◌, ◌<◌, Bool, true, List, map, [], ◌++◌, Some, is_some}
+use Rattle.std.specs.Prelude.{◌≡◌, ℕ, ◌+◌, ◌≤◌, ◌<◌, Bool, true, not, ◌==◌, List, map, [], ◌∷◌, ◌++◌, None, Some, is_some}
 use Rattle.host_types.specs.declared.entry.Body.{Body}
 use Rattle.host_types.specs.declared.entry.Body.TheVariants as bodies
 use Rattle.host_types.specs.declared.entry.Effect.{Effect}
 use Rattle.host_types.specs.declared.entry.Effect.TheVariants.{Put}
 use Rattle.host_types.specs.declared.entry.Entry.{Entry}
-use Rattle.std.specs.List.{AllByRecursion}
+use Rattle.std.specs.List.{AllByRecursion, filter}
 use Rattle.host_types.specs.Cells.{Cells, places_of}
 use Rattle.commit_lending.specs.Lent.{Lent, tokens, one_of}
 use Rattle.log_model.specs.Plain.{Session, session_in}
@@ -14,7 +14,7 @@ use Rattle.log_model.specs.Parts.{machine_after, session_cells}
 use Rattle.log_model.specs.Replay.{replay_sessions}
 use Rattle.log_model.specs.Sound.{IsSound}
 use Rattle.event_batches.specs.Rising.{AreBelow}
-use Rattle.session_table.specs.Table.{Table, IsOpen, reply_room}
+use Rattle.session_table.specs.Table.{Beside, Table, IsOpen, beside_alive, beside_changed, reply_room}
 use Rattle.session_table.specs.Places.{table_cells}
 use Rattle.host_core.specs.Parts.{sessions_after}
 
@@ -53,9 +53,18 @@ abbrev pub has_owner : List Session → Effect → Bool
 has_owner sessions (Put instance cell content (Some owner)) = is_some (session_in owner sessions)
 has_owner sessions _ = true
 
+-- What the sessions have besides, after the entry of this index: a new one has confirmed its own index, a keep-alive confirms its
+-- event, and nothing else confirms any.
+abbrev pub beside_after : ℕ → Body → List Beside → List Beside
+beside_after index (bodies.Register timeout) bs = bs ++ record { id = index; alive = None; confirmed = index } ∷ []
+beside_after index (bodies.Alive session seq event) bs = beside_changed session (beside_alive index event) bs
+beside_after index (bodies.Close session expired) bs = filter (λ b. not (b.id == session)) bs
+beside_after index _ bs = bs
+
 -- The entry was entered: each part has followed, and exactly what holds a place is out.
 pub record Entered (index : ℕ) (e : Entry) (cut : ℕ) (machine machine' : Cells) (table table' : Table) (lent' : Lent) : Type 0 where
   pub machine_is : machine' ≡ machine_after (machine ++ table_cells table) index e.body machine
   pub table_is : table_cells table' ≡ sessions_after index e (table_cells table)
   pub sessions_are : table'.sessions ≡ replay_sessions cut index e.time [] e.body table.sessions
+  pub beside_is : table'.beside ≡ beside_after index e.body table.beside
   pub out : IsOut machine' table' lent'

@@ -8,7 +8,7 @@ ghost use Rattle.log_model.specs.Replay.{replay_alive, replay_reply};
 ghost use Rattle.log_model.specs.Sound.{Rises};
 ghost use Rattle.log_model.specs.Step.{changed};
 ghost use Rattle.log_model.specs.Parts.{machine_after};
-ghost use Rattle.session_table.specs.Table.{IsOpen, IsSame, reply_room};
+ghost use Rattle.session_table.specs.Table.{IsOpen, IsSame, beside_alive, beside_changed, reply_room};
 ghost use Rattle.session_table.specs.Places.{table_cells};
 ghost use Rattle.host_core.specs.Entering.{AreKeptBefore, Entered, HasRoomFor, IsOut, Meets, has_owner};
 
@@ -75,7 +75,7 @@ fn keep_reply(
     requires before { AreKeptBefore index sessions.old.sessions }
     requires rises { Rises sessions.old.sessions }
     ensures sessions { sessions.new.sessions ≡ changed session (replay_reply cut seq index reply) sessions.old.sessions }
-    ensures cells { table_cells sessions.new ≡ table_cells sessions.old }
+    ensures beside { sessions.new.beside ≡ sessions.old.beside }
 {
     let Some(view) = sessions.find(session) else {
         return;
@@ -99,6 +99,7 @@ fn enter_alive(
 )
     requires meets { (machine : Cells) × Meets commit machine sessions.old lender.old }
     ensures sessions { sessions.new.sessions ≡ changed session (replay_alive time seq event) sessions.old.sessions }
+    ensures beside { sessions.new.beside ≡ beside_changed session (beside_alive commit event) sessions.old.beside }
     ensures table { table_cells sessions.new ≡ after (table_cells sessions.old) commit (record { time = time; body = Body.Alive session seq event }) }
     ensures out { (machine : Cells) → Meets commit machine sessions.old lender.old → IsOut machine sessions.new lender.new }
 {
@@ -122,6 +123,7 @@ fn enter_close<M: Machine>(
     requires meets { Meets commit (M.cells machine.old) sessions.old lender.old }
     ensures machine { M.cells machine.new ≡ without_owner session (M.cells machine.old) }
     ensures sessions { sessions.new.sessions ≡ filter (λ x. not (x.id == session)) sessions.old.sessions }
+    ensures beside { sessions.new.beside ≡ filter (λ b. not (b.id == session)) sessions.old.beside }
     ensures table { (time : ℕ) (expired : Bool) → table_cells sessions.new ≡ after (table_cells sessions.old) commit (record { time = time; body = Body.Close session expired }) }
     ensures out { IsOut (M.cells machine.new) sessions.new lender.new }
 {

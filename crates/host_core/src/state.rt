@@ -1,11 +1,15 @@
 // The core of a host: its machine, its sessions and its commits.
 ghost use Rattle.std.specs.Prelude.{◌≡◌, ℕ, ◌≤◌, ◌<◌, ◌+◌, [], IfOk, IfSome, OnOk, OnErr};
+ghost use Rattle.host_types.specs.Cells.{places_of};
 ghost use Rattle.host_types.specs.Ranges.{EntryFits, IsInRange, IsIndex};
+ghost use Rattle.commit_lending.specs.Lent.{tokens};
 ghost use Rattle.log_model.specs.Admission.{Offered, due_in};
 ghost use Rattle.log_model.specs.Hosted.{hosted_admits, hosted_entry, hosted_nothing, hosted_quiet, hosted_told, machine_cells};
 ghost use Rattle.log_model.specs.Replay.{replay_entry};
 ghost use Rattle.log_model.specs.Sound.{IsSound};
 ghost use Rattle.host_core.specs.Answers.{Decides_as, IsStorable};
+ghost use Rattle.session_table.specs.Table.{IsSame};
+ghost use Rattle.host_core.specs.Entering.{beside_after};
 ghost use Rattle.host_core.specs.Seen.{IsPrepared, TellsNothing, hosted};
 
 use crate::deciding::{DecideError, Decided, decide_ask, decide_at_end};
@@ -68,6 +72,9 @@ impl<M: Machine> Core<M> {
     pub fn keeps(&self)
         ensures sound { IsSound (hosted M.cells self.now) }
         ensures machine { machine_cells (hosted M.cells self.now).cells ≡ M.cells self.now.machine }
+        // Exactly what holds a cell is out, and nothing is closed that was not yet handed on.
+        ensures out { (j : ℕ) → tokens self.now.lender j ≡ places_of (hosted M.cells self.now).cells j }
+        ensures closed { self.now.lender.closed ≡ [] }
     {
         let _ = &self.last;
     }
@@ -148,6 +155,7 @@ impl<M: Machine> Core<M> {
     ) -> Result<Prepared, NoMemory>
         ensures prepared { OnOk result (IsPrepared M.is_ready self.new index entry.now.body) }
         ensures state { hosted M.cells self.new ≡ hosted M.cells self.old }
+        ensures sessions { IsSame self.old.sessions self.new.sessions }
     {
         if self.lender.reserve().is_err() {
             return Err(NoMemory);
@@ -168,7 +176,8 @@ impl<M: Machine> Core<M> {
         requires fits { EntryFits entry }
         requires range { IsInRange index entry }
         requires prepared { IsPrepared M.is_ready self.old index entry.body }
-        ensures { hosted M.cells self.new ≡ replay_entry (hosted_told M.decides) 0 (hosted M.cells self.old) (index, entry) }
+        ensures state { hosted M.cells self.new ≡ replay_entry (hosted_told M.decides) 0 (hosted M.cells self.old) (index, entry) }
+        ensures beside { self.new.sessions.beside ≡ beside_after index entry.body self.old.sessions.beside }
     {
         let Prepared { index: _ } = prepared;
         self.take(index, entry, 0);
@@ -176,7 +185,8 @@ impl<M: Machine> Core<M> {
 
     /// Gives the room back.
     pub fn cancel(&mut self, prepared: Prepared)
-        ensures { hosted M.cells self.new ≡ hosted M.cells self.old }
+        ensures state { hosted M.cells self.new ≡ hosted M.cells self.old }
+        ensures sessions { IsSame self.old.sessions self.new.sessions }
     {
         let Prepared { index: _ } = prepared;
     }
@@ -195,6 +205,8 @@ impl<M: Machine> Core<M> {
         requires range { IsInRange index entry }
         ensures ok { OnOk result (hosted M.cells self.new ≡ replay_entry (hosted_told M.decides) cut (hosted M.cells self.old) (index, entry)) }
         ensures err { OnErr result (hosted M.cells self.new ≡ hosted M.cells self.old) }
+        ensures beside { OnOk result (self.new.sessions.beside ≡ beside_after index entry.body self.old.sessions.beside) }
+        ensures sessions { OnErr result (IsSame self.old.sessions self.new.sessions) }
     {
         let Prepared { index: _ } = self.reserve(alloc, index, &entry)?;
         self.take(index, entry, cut);
@@ -207,7 +219,8 @@ impl<M: Machine> Core<M> {
         requires fits { EntryFits entry }
         requires range { IsInRange index entry }
         requires prepared { IsPrepared M.is_ready self.old index entry.body }
-        ensures { hosted M.cells self.new ≡ replay_entry (hosted_told M.decides) cut (hosted M.cells self.old) (index, entry) }
+        ensures state { hosted M.cells self.new ≡ replay_entry (hosted_told M.decides) cut (hosted M.cells self.old) (index, entry) }
+        ensures beside { self.new.sessions.beside ≡ beside_after index entry.body self.old.sessions.beside }
     {
         let time = entry.time;
         let commit = self.lender.lend(index);

@@ -4,7 +4,7 @@ use Rattle.session_table.specs.Table.{alive_at}
 use Rattle.session_table.specs.Places.{cells_of}
 use Rattle.log_model.specs.Step.{changed}
 use Rattle.log_model.specs.Replay.{noted}
-use Rattle.host_core.proofs.Meeting.{none_of_table, changed_none, shut, open_changed, heard_as, alive_stays, is_open}
+use Rattle.host_core.proofs.Meeting.{none_of_table, changed_none, shut, open_changed, heard_as, alive_stays, alive_stays_beside, is_open}
 use Rattle.host_core.proofs.entering.enter_alive.Goals as goal
 
 pub returns-then-is_none-clause-sessions : goal.returns-then-is_none-clause-sessions
@@ -13,6 +13,11 @@ returns-then-is_none-clause-sessions c = sym (changed_none c.args.session _ c.ar
 pub returns-then-is_none-clause-table : goal.returns-then-is_none-clause-table
 returns-then-is_none-clause-table c =
     alive_stays c.args.commit c.requires.meets.0 c.args.sessions.now c.args.lender.now c.requires.meets.1 c.args.session c.args.time c.args.seq c.args.event
+    (shut c.args.session c.args.sessions.now (ap is_some (sym c.find.ensures) ∙ c.if-is_none.ensures))
+
+pub returns-then-is_none-clause-beside : goal.returns-then-is_none-clause-beside
+returns-then-is_none-clause-beside c =
+    alive_stays_beside c.args.commit c.requires.meets.0 c.args.sessions.now c.args.lender.now c.requires.meets.1 c.args.session _
     (shut c.args.session c.args.sessions.now (ap is_some (sym c.find.ensures) ∙ c.if-is_none.ensures))
 
 pub alive-requires-clause-new : goal.alive-requires-clause-new

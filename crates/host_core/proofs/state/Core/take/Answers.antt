@@ -1,5 +1,5 @@
-use Rattle.std.proofs.Common.{◌<◌, sym, ap, subst, ◌∙◌}
-use Rattle.host_core.specs.Entering.{Entered, Meets}
+use Rattle.std.proofs.Common.{◌≡◌, ◌<◌, sym, ap, subst, ◌∙◌}
+use Rattle.host_core.specs.Entering.{Entered, Meets, beside_after}
 use Rattle.host_core.specs.Seen.{Seen, hosted}
 use Rattle.host_core.proofs.Keeping.{absent, meets, state_is, is_kept}
 use Rattle.host_core.proofs.state.Core.take.Goals as goal
@@ -21,11 +21,16 @@ invariant_of-self κs c =
     (subst (λ i. Entered i c.args.entry c.args.cut (κs.M.Machine.cells c.self.inside.machine) (κs.M.Machine.cells c.enter.new.machine) c.self.inside.sessions c.enter.new.sessions c.enter.new.lender) c.lend-commit.ensures.index c.enter.ensures)
     c.drop_closed.ensures.out c.drop_closed.ensures.closed
 
-pub returns : goal.returns
-returns κs c =
+pub returns-clause-state : goal.returns-clause-state
+returns-clause-state κs c =
     state_is κs.M.Machine.cells κs.M.Machine.decides _ c.self.invariant c.args.index c.args.cut c.args.entry
     (subst (λ n. n < c.args.index) (sym (ap (λ (s : Seen κs.row.M.Denot). s.last) c.self.view_is)) c.requires.behind) c.requires.fits c.requires.range
     c.enter.new.machine c.enter.new.sessions c.enter.new.lender c.drop_closed.new.lender
     (subst (λ i. Entered i c.args.entry c.args.cut (κs.M.Machine.cells c.self.inside.machine) (κs.M.Machine.cells c.enter.new.machine) c.self.inside.sessions c.enter.new.sessions c.enter.new.lender) c.lend-commit.ensures.index c.enter.ensures)
     c.drop_closed.ensures.out c.drop_closed.ensures.closed
     ∙ ap (λ (s : Seen κs.row.M.Denot). Rattle.log_model.specs.Replay.replay_entry (Rattle.log_model.specs.Hosted.hosted_told κs.M.Machine.decides) c.args.cut (hosted κs.M.Machine.cells s) (c.args.index, c.args.entry)) c.self.view_is
+
+pub returns-clause-beside : goal.returns-clause-beside
+returns-clause-beside κs c =
+    subst (λ i. c.enter.new.sessions.beside ≡ beside_after i c.args.entry.body c.self.inside.sessions.beside) c.lend-commit.ensures.index c.enter.ensures.beside_is
+    ∙ ap (λ (s : Seen κs.row.M.Denot). beside_after c.args.index c.args.entry.body s.sessions.beside) c.self.view_is

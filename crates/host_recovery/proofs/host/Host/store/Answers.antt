@@ -58,7 +58,7 @@ pub returns-in-Ok-append-clause-state : goal.returns-in-Ok-append-clause-state
 returns-in-Ok-append-clause-state g c =
     let state = c.reserve.ensures.state ∙ ap (λ (h : Seen g.row.D.Denot g.row.M.Denot). hosted g.M.Machine.cells h.core) c.self.view_is in
     let index = (c.last-index.ensures ∙ ap (λ (h : Seen g.row.D.Denot g.row.M.Denot). h.core.last) c.self.view_is) in
-    c.apply.ensures ∙ (λ i. replay_entry (hosted_told g.M.Machine.decides) 0 (state i) (index i + 1, c.args.entry))
+    c.apply.ensures.state ∙ (λ i. replay_entry (hosted_told g.M.Machine.decides) 0 (state i) (index i + 1, c.args.entry))
 
 pub returns-in-Ok-append-clause-log : goal.returns-in-Ok-append-clause-log
 returns-in-Ok-append-clause-log g c =
