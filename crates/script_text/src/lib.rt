@@ -17,4 +17,3 @@ pub use operations::is_looking;
 pub use printed::Printed;
 pub use printing::print;
 pub use reading::read_line;
-
