@@ -304,3 +304,89 @@ fn many_replies_go_in_one_keep_alive(rt: HostRuntime) {
     same(&rt, desk.quiet(10_002), 10_002);
     desk.end();
 }
+
+/// 1,024 sessions since the time 0. Their timeouts are the numbers below 1,024, each once.
+fn scattered_desk(rt: &impl Abort, alloc: Global) -> Desk {
+    let mut desk = Desk::new(alloc);
+    for id in 1..1025 {
+        same(rt, desk.register(rt, 0, id * 389 % 1024), id);
+    }
+    desk
+}
+
+/// The session with this timeout: 845 times 389 leaves 1 over 1,024.
+fn with_timeout(timeout: u16) -> Index {
+    let id = u64::from(timeout) * 845 % 1024;
+    if id == 0 { 1024 } else { id }
+}
+
+/// At its timeout the next session isn't due, and one tick later it is. Every other one ends then, and the others are heard of.
+fn is_due_next(rt: &impl Abort, desk: Desk, timeout: u16) -> Desk {
+    let mut desk = desk;
+    let id = with_timeout(timeout);
+    let last = u64::from(timeout);
+    same(rt, desk.due(last), None);
+    same(rt, desk.due(last + 1), Some(id));
+    if id % 2 == 0 {
+        desk.close(rt, id);
+    } else {
+        desk.alive(rt, id, 2_000, 0, id);
+    }
+    desk
+}
+
+#[test]
+fn each_session_is_due_in_its_turn(rt: HostRuntime) {
+    let mut desk = scattered_desk(&rt, rt.alloc());
+    for timeout in 0..1024 {
+        desk = is_due_next(&rt, desk, timeout);
+    }
+    same(&rt, desk.count(), 512);
+    same(&rt, desk.due(2_000), None);
+    desk.end();
+}
+
+/// Three sessions, the first with a timeout that ends past all times.
+fn three_sessions(rt: &impl Abort, alloc: Global) -> Desk {
+    let mut desk = Desk::new(alloc);
+    same(rt, desk.register(rt, u64::MAX - 1, 2), 1);
+    same(rt, desk.register(rt, 5, 10), 2);
+    same(rt, desk.register(rt, 5, 20), 3);
+    same(rt, desk.due(15), None);
+    same(rt, desk.due(16), Some(2));
+    desk
+}
+
+/// A keep-alive of the session that is due first, and then one with an older time.
+fn least_is_moved(rt: &impl Abort, desk: Desk) -> Desk {
+    let mut desk = desk;
+    same(rt, desk.alive(rt, 2, 30, 0, 2), 4);
+    same(rt, desk.due(25), None);
+    same(rt, desk.due(26), Some(3));
+    same(rt, desk.alive(rt, 2, 1, 0, 2), 5);
+    same(rt, desk.due(11), None);
+    same(rt, desk.due(12), Some(2));
+    desk
+}
+
+/// The ends of those that are due first.
+fn least_is_closed(rt: &impl Abort, desk: Desk) -> Desk {
+    let mut desk = desk;
+    same(rt, desk.close(rt, 2), 6);
+    same(rt, desk.due(25), None);
+    same(rt, desk.due(26), Some(3));
+    same(rt, desk.close(rt, 3), 7);
+    same(rt, desk.due(u64::MAX), None);
+    desk
+}
+
+#[test]
+fn the_least_deadline_moves(rt: HostRuntime) {
+    let desk = least_is_moved(&rt, three_sessions(&rt, rt.alloc()));
+    let mut desk = least_is_closed(&rt, desk);
+    // A session in the place of one that ended.
+    same(&rt, desk.register(&rt, 0, 3), 8);
+    same(&rt, desk.due(3), None);
+    same(&rt, desk.due(4), Some(8));
+    desk.end();
+}

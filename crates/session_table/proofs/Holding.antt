@@ -14,7 +14,7 @@ use Rattle.machine.proofs.ReleaseLaws.{both_held, are_out_with, are_out_still, c
 use Rattle.session_table.specs.Kept.{Kept_session}
 use Rattle.session_table.specs.Table.{Beside, Table}
 use Rattle.session_table.specs.Places.{alive_place, cells_of, table_cells}
-use Rattle.session_table.specs.Inside.{table, IsInOrder}
+use Rattle.session_table.specs.Inside.{table}
 use Rattle.session_table.specs.declared.sessions.Sessions.TheInside.{Inside}
 use Rattle.session_table.specs.Rows.{Slots, one_seat, seats, AreSeated, beside_of, held_in, ClosesBoth}
 use Rattle.session_table.specs.declared.order.Row.{Row}
@@ -129,5 +129,5 @@ pub retired_none : (was : ℕ → ℕ) (rows : List Row) (lent : Lent) → ((j :
 retired_none was rows lent same out = record { covered = λ j. let a = out_covers was lent out j in let b = same j in omega (arith, a, b); tokens = λ j. refl; closed = refl; spare = refl }
 
 -- the places of a table, by the rows that it keeps
-pub places_in : (a : Inside) (t : Table) (j : ℕ) → IsInOrder a → table a ≡ t → places_of (table_cells t) j ≡ held_in a.order.items j
-places_in a t j order view = ap (λ (u : Table). places_of (table_cells u) j) (sym view) ∙ places_are j a.order.items a.slots order.seated
+pub places_in : (a : Inside) (t : Table) (j : ℕ) → AreSeated a.order.items a.slots → table a ≡ t → places_of (table_cells t) j ≡ held_in a.order.items j
+places_in a t j seated view = ap (λ (u : Table). places_of (table_cells u) j) (sym view) ∙ places_are j a.order.items a.slots seated

@@ -1,5 +1,7 @@
 pub mod ReplyLists
 pub mod Seats
+pub mod Timely
+pub mod Trees
 pub mod Tables
 pub mod Walks
 pub mod Holding

@@ -1,9 +1,10 @@
 -- What a caller of the table sees of one session.
-use Rattle.std.proofs.Common.{◌≡◌, ◌≢◌, ℕ, ◌≤◌, ◌==◌, Bool, true, false, cond, List, [], ◌∷◌, ◌++◌, map, length, Option, Some, None, is_some, zero, suc, ◌+◌, count_by, slice_index_or, slice_set, refl, sym, ap, subst, ◌∙◌, inl, inr, arith, eqb-true, eq-eqb}
+use Rattle.std.proofs.Common.{◌≡◌, ◌≢◌, ℕ, ◌≤◌, ◌==◌, Bool, true, false, cond, List, [], ◌∷◌, ◌++◌, map, length, Option, Some, None, is_some, zero, suc, ◌+◌, ◌-◌, count_by, slice_index_or, slice_set, refl, sym, ap, subst, ◌∙◌, inl, inr, arith, eqb-true, eq-eqb}
 use Rattle.std.proofs.lemmas.Bool.{cases_eq, false_from_ne_true}
 use Rattle.std.proofs.lemmas.List.Sums.{sum_by-cons}
 use Rattle.std.proofs.lemmas.Option.{none-some, same_Some}
 use Rattle.std.specs.List.{find, flat_map}
+use Rattle.std.specs.VecDeque.{deque_len, deque_capacity}
 use Rattle.host_types.specs.Cells.{Place, Held, Register_at, marked}
 use Rattle.std.specs.Option.{option_map, option_map_or, IsSome, IsSomeAnd}
 use Rattle.slab.specs.Slab.{get, with_value, ContainsKey, slab_len}
@@ -14,9 +15,11 @@ use Rattle.session_table.specs.Kept.{Kept_session}
 use Rattle.session_table.specs.Table.{Beside, Room, Table, session_at, IsOpen, confirmed_of, reply_room, batch_room, KeepsRoom, IsSame, beside_changed, beside_confirmed}
 use Rattle.session_table.specs.Rows.{Slots, row_at, kept_in, Seat, one_seat, seats, AreSeated, beside_of, room_of}
 use Rattle.session_table.specs.Places.{alive_place, cells_of}
-use Rattle.session_table.specs.Inside.{table, IsInOrder}
+use Rattle.session_table.specs.Inside.{table, spare_of, IsInOrder}
+use Rattle.session_table.specs.Deadlines.{deadline, AreMore}
 use Rattle.session_table.specs.declared.sessions.Sessions.TheInside.{Inside}
 use Rattle.session_table.specs.declared.order.Row.{Row}
+use Rattle.session_table.proofs.Timely.{timely_still, timely_more, IsReady, ready, room_grows}
 use Rattle.session_table.proofs.Seats.{Apart, registers, Away, map_one, find_one, find_beside, cut_at, spot_of, spot_at, seats_away, seats_append, seated_after, Around, around}
 
 abbrev pub session_of_seat : Seat → Session
@@ -259,14 +262,18 @@ one_changed rows old id slot kept kept' r h found there same =
 -- ---- the same of the fields
 
 abbrev pub with_session : Inside → ℕ → Kept_session → Inside
-with_session a slot kept = record { order = a.order; slots = with_value a.slots slot kept }
+with_session a slot kept = record { order = a.order; slots = with_value a.slots slot kept; deadlines = a.deadlines }
 
 pub changed_in : (a : Inside) (id slot : ℕ) (kept kept' : Kept_session) → IsInOrder a → option_map (λ row. row.slot) (row_at id a.order.items) ≡ Some slot → get a.slots slot ≡ Some kept → kept'.session.id ≡ kept.session.id
     → OneChanged a.order.items a.slots (with_value a.slots slot kept') id kept kept'
 changed_in a id slot kept kept' order found there same = one_changed a.order.items a.slots id slot kept kept' order.rising order.seated found there same
 
-pub in_order : (a : Inside) (id slot : ℕ) (kept kept' : Kept_session) → IsInOrder a → OneChanged a.order.items a.slots (with_value a.slots slot kept') id kept kept' → IsInOrder (with_session a slot kept')
-in_order a id slot kept kept' order ch = record { rising = order.rising; seated = ch.seated }
+pub in_order : (a : Inside) (id slot : ℕ) (kept kept' : Kept_session) → IsInOrder a → OneChanged a.order.items a.slots (with_value a.slots slot kept') id kept kept' → get a.slots slot ≡ Some kept → deadline kept'.session ≡ deadline kept.session → IsInOrder (with_session a slot kept')
+in_order a id slot kept kept' order ch there same = record { rising = order.rising; seated = ch.seated; timely = timely_still a.slots a.deadlines slot kept kept' order.timely there same }
+
+pub spare_stays : (a : Inside) (t : Table) (slot : ℕ) (kept kept' : Kept_session) → table a ≡ t → get a.slots slot ≡ Some kept → (table (with_session a slot kept')).spare ≡ t.spare
+spare_stays a t slot kept kept' view there =
+    (λ i. spare_of a.slots.capacity (length a.deadlines) (deque_capacity a.order - deque_len a.order) (a.slots.capacity - len_stays a.slots slot kept' (ap is_some there) i)) ∙ ap (λ (u : Table). u.spare) view
 
 pub keeps_room : (a : Inside) (t : Table) (id slot : ℕ) (kept kept' : Kept_session) → OneChanged a.order.items a.slots (with_value a.slots slot kept') id kept kept' → table a ≡ t → kept.reply_room ≤ kept'.reply_room → kept.batch_room ≤ kept'.batch_room
     → (other : ℕ) → KeepsRoom other t (table (with_session a slot kept'))
@@ -362,14 +369,30 @@ pub record Refilled (a b : Inside) (t : Table) : Type 0 where
   pub same : IsSame t (table b)
   pub rooms : (other : ℕ) → KeepsRoom other t (table b)
 
-pub refilled : (a b : Inside) (t : Table) → b.order.items ≡ a.order.items → b.slots.slots ≡ a.slots.slots → IsInOrder a → table a ≡ t → Refilled a b t
-refilled a b t order slots h view =
+pub refilled : (a b : Inside) (t : Table) → b.order.items ≡ a.order.items → b.slots.slots ≡ a.slots.slots → AreMore a.deadlines b.deadlines → IsInOrder a → table a ≡ t → Refilled a b t
+refilled a b t order slots more h view =
     let all : seats b.order.items b.slots ≡ seats a.order.items a.slots = ap (λ rs. seats rs b.slots) order ∙ seats_by a.order.items a.slots b.slots slots in
     record {
-      in_order = record { rising = subst (λ rs. Rises 0 (registers rs)) (sym order) h.rising; seated = subst (λ rs. AreSeated rs b.slots) (sym order) (seated_by a.order.items a.slots b.slots slots h.seated) };
+      in_order = record { rising = subst (λ rs. Rises 0 (registers rs)) (sym order) h.rising; seated = subst (λ rs. AreSeated rs b.slots) (sym order) (seated_by a.order.items a.slots b.slots slots h.seated); timely = timely_more a.slots b.slots a.deadlines b.deadlines h.timely slots more };
       same = record { sessions = ap (map session_of_seat) all ∙ ap (λ (u : Table). u.sessions) view; beside = ap (map beside_of) all ∙ ap (λ (u : Table). u.beside) view };
       rooms = λ other.
           let replies : reply_room other (table b) ≡ reply_room other t = ap (λ ss. option_map_or (λ (r : Room). r.replies) (find (λ r. r.id == other) (map room_of ss)) 0) all ∙ ap (reply_room other) view in
           let batches : batch_room other (table b) ≡ batch_room other t = ap (λ ss. option_map_or (λ (r : Room). r.batches) (find (λ r. r.id == other) (map room_of ss)) 0) all ∙ ap (batch_room other) view in
           record { replies = omega (arith, replies); batches = omega (arith, batches) };
     }
+
+pub none_more : (deadlines : List ℕ) → AreMore deadlines deadlines
+none_more deadlines = record { longer = omega arith; same = λ key within. refl }
+
+pub ready_in : (a : Inside) (t : Table) → table a ≡ t → 1 ≤ t.spare → IsReady a.slots.capacity (length a.deadlines) (deque_capacity a.order - deque_len a.order) (a.slots.capacity - slab_len a.slots)
+ready_in a t view some = ready a.slots.capacity (length a.deadlines) (deque_capacity a.order - deque_len a.order) (a.slots.capacity - slab_len a.slots) t.spare (ap (λ (u : Table). u.spare) view) some
+
+-- the keys become more only where there was no room for one more
+pub room_in : (a b : Inside) (t : Table) → table a ≡ t → b.slots.slots ≡ a.slots.slots → (slab_len a.slots + 1 ≤ a.slots.capacity → b.slots.capacity ≡ a.slots.capacity) → length a.deadlines ≤ length b.deadlines → deque_capacity a.order - deque_len a.order ≤ deque_capacity b.order - deque_len b.order
+    → t.spare ≤ (table b).spare
+room_in a b t view slots keys places rows =
+    let same : slab_len b.slots ≡ slab_len a.slots = ap (λ l. count_by is_some l) slots in
+    let grows = room_grows a.slots.capacity b.slots.capacity (length a.deadlines) (length b.deadlines) (deque_capacity a.order - deque_len a.order) (deque_capacity b.order - deque_len b.order) (slab_len a.slots) keys places rows in
+    let now : spare_of b.slots.capacity (length b.deadlines) (deque_capacity b.order - deque_len b.order) (b.slots.capacity - slab_len a.slots) ≡ (table b).spare = (λ i. spare_of b.slots.capacity (length b.deadlines) (deque_capacity b.order - deque_len b.order) (b.slots.capacity - sym same i)) in
+    let was : (table a).spare ≡ t.spare = ap (λ (u : Table). u.spare) view in
+    omega (arith, grows, now, was)

@@ -9,8 +9,10 @@ use Rattle.log_model.specs.Admission.{is_due, due}
 use Rattle.log_model.specs.Quiet.{kept_indexes, greatest_below}
 use Rattle.session_table.specs.Kept.{Kept_session, session_indexes}
 use Rattle.session_table.specs.Table.{as_state}
-use Rattle.session_table.specs.Rows.{Slots, one_seat, seats, AreSeated}
+use Rattle.session_table.specs.Deadlines.{deadline, deadline_at, IsAtMostEach}
+use Rattle.session_table.specs.Rows.{Slots, one_seat, seats, AreSeated, AreTimely}
 use Rattle.session_table.specs.declared.order.Row.{Row}
+use Rattle.session_table.proofs.Timely.{not_due}
 use Rattle.session_table.proofs.ReplyLists.{quiet_append}
 use Rattle.session_table.proofs.Seats.{registers, own_id}
 use Rattle.session_table.proofs.Tables.{session_of_seat, shown_sessions}
@@ -61,6 +63,22 @@ due_here time rows slots place row kept h cut there is_due_now so_far =
 
 pub nobody_due : (time : ℕ) (rows : List Row) (slots : Slots) (place : ℕ) → length rows ≤ place → find (is_due time) (shown_sessions (drop place rows) slots) ≡ find (is_due time) (shown_sessions rows slots) → None ≡ due time (as_state (shown_sessions rows slots))
 nobody_due time rows slots place past so_far = ap first_of (sym (ap (λ rs. find (is_due time) (shown_sessions rs slots)) (drop_all place rows past)) ∙ so_far)
+
+none_due : (time least : ℕ) (rows : List Row) (slots : Slots) (deadlines : List ℕ) → AreTimely slots deadlines → IsAtMostEach least deadlines → time ≤ least → find (is_due time) (shown_sessions rows slots) ≡ None
+none_due time least [] slots deadlines h below early = refl
+none_due time least (row ∷ rows) slots deadlines h below early = one (get slots row.slot) refl (none_due time least rows slots deadlines h below early)
+  where
+    one : (o : Option Kept_session) → get slots row.slot ≡ o → find (is_due time) (shown_sessions rows slots) ≡ None → find (is_due time) (map session_of_seat (one_seat row.alive o ++ seats rows slots)) ≡ None
+    one None e later = later
+    one (Some kept) e later =
+        let at = h row.slot kept e in
+        let low : least ≤ deadline_at deadlines row.slot = below row.slot at.within in
+        let is : deadline_at deadlines row.slot ≡ deadline kept.session = at.is in
+        ap (λ b. cond b (Some kept.session) (find (is_due time) (shown_sessions rows slots))) (not_due time kept.session (omega (arith, early, low, is))) ∙ later
+
+-- nobody is due up to a bound of the deadlines
+pub nobody_yet : (time least : ℕ) (rows : List Row) (slots : Slots) (deadlines : List ℕ) → AreTimely slots deadlines → IsAtMostEach least deadlines → time ≤ least → None ≡ due time (as_state (shown_sessions rows slots))
+nobody_yet time least rows slots deadlines h below early = ap first_of (sym (none_due time least rows slots deadlines h below early))
 
 -- ---- how far it is quiet
 

@@ -3,6 +3,8 @@ pub mod RepliesInside
 pub mod Kept
 pub mod KeptInside
 pub mod Table
+pub mod Deadlines
+pub mod DeadlinesInside
 pub mod Asked
 pub mod Places
 pub mod Rows

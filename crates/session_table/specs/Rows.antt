@@ -1,11 +1,13 @@
 -- How the table keeps what callers see: the commits of the sessions by rising id, and under keys of their own the sessions.
-use Rattle.std.specs.Prelude.{◌≡◌, ℕ, ◌+◌, ◌==◌, List, [], ◌∷◌, ◌++◌, Option, Some, None, IsSomeAnd}
+use Rattle.std.specs.Prelude.{◌≡◌, ℕ, ◌+◌, ◌<◌, ◌==◌, List, [], ◌∷◌, ◌++◌, length, Option, Some, None, IsSomeAnd}
 use Rattle.std.specs.List.{find, slice_get}
 use Rattle.slab.specs.Slab.{Slab, get}
 use Rattle.commit_lending.specs.Lent.{Lent, one_of}
 use Rattle.machine.specs.Holding.{held_by}
 use Rattle.machine.specs.Release.{AreOut, Releases}
+use Rattle.log_model.specs.Plain.{Session}
 use Rattle.session_table.specs.Kept.{Kept_session}
+use Rattle.session_table.specs.Deadlines.{deadline, deadline_at}
 use Rattle.session_table.specs.Table.{Beside, Room}
 use Rattle.session_table.specs.declared.order.Row.{Row}
 
@@ -42,6 +44,14 @@ seats (row ∷ rows) slots = one_seat row.alive (get slots row.slot) ++ seats ro
 abbrev pub AreSeated : List Row → Slots → Type 0
 AreSeated [] slots = Unit {0}
 AreSeated (row ∷ rows) slots = IsSomeAnd (get slots row.slot) (λ kept. kept.session.id ≡ row.register) × AreSeated rows slots
+
+pub record HasDeadline (deadlines : List ℕ) (key : ℕ) (x : Session) : Type 0 where
+  pub within : key < length deadlines
+  pub is : deadline_at deadlines key ≡ deadline x
+
+-- the deadline of each session stands at its key
+abbrev pub AreTimely : Slots → List ℕ → Type 0
+AreTimely slots deadlines = (key : ℕ) (kept : Kept_session) → get slots key ≡ Some kept → HasDeadline deadlines key kept.session
 
 abbrev pub beside_of : Seat → Beside
 beside_of seat = record { id = seat.kept.session.id; alive = seat.alive; confirmed = seat.kept.confirmed }

@@ -7,6 +7,7 @@ ghost use Rattle.log_model.specs.Step.{new_session, with_reply};
 ghost use Rattle.event_batches.specs.Kept.{as_batch, served, has_batch, can_confirm};
 ghost use Rattle.event_batches.specs.Rising.{AreBelow};
 ghost use Rattle.session_table.specs.Kept.{session_indexes, batch_indexes};
+ghost use Rattle.session_table.specs.Deadlines.{deadline};
 ghost use Rattle.session_table.specs.Replies.{reply_indexes};
 ghost use Rattle.session_table.specs.Table.{view_of, alive_at, noted, with_batch};
 
@@ -112,7 +113,9 @@ impl OpenSession {
         self.batches.confirm(event)
     }
 
-    pub(crate) fn alive(&mut self, time: Time, seq: u64, event: Index)
+    // Its new deadline is answered.
+    pub(crate) fn alive(&mut self, time: Time, seq: u64, event: Index) -> Time
+        ensures deadline { result ≡ deadline self.new.session }
         ensures session { self.new.session ≡ alive_at time seq event self.old.session }
         ensures confirmed { self.new.confirmed ≡ max self.old.confirmed event }
         ensures reply_room { self.old.reply_room ≤ self.new.reply_room }
@@ -122,6 +125,7 @@ impl OpenSession {
         self.acked_seq = seq;
         self.replies.trim(seq);
         self.batches.trim(event);
+        time.saturating_add(self.timeout)
     }
 
     pub(crate) fn prepare_reply(&mut self) -> Result<(), NoMemory>

@@ -16,6 +16,7 @@ ghost use Rattle.session_table.specs.Table.{Beside, as_state, session_at, IsOpen
 ghost use Rattle.session_table.specs.Asked.{NewerReply, NewerBatch, batch_at, batch_is_kept, confirms};
 ghost use Rattle.session_table.specs.Places.{table_cells};
 
+use crate::deadlines::Deadlines;
 use crate::open_session::OpenSession;
 use crate::order::{Row, close_row, open_place, open_slot, session_in};
 use crate::view::SessionView;
@@ -37,12 +38,14 @@ use std::marker::Model;
 /// The table keeps the commits of the sessions' register entries and of their last keep-alives, and so holds their places
 /// (`table_cells`). What it is asked of sessions and places is what the model's definitions say of these sessions.
 ///
-/// Only `ids` and the calls that prepare take memory. `find`, `cached`, `batch`, `has_batch`, `confirm`, `keep`, `note` and `push`
-/// take a time that grows with the logarithm of what is kept, `due` and `quiet` with the number of open sessions, `alive` with that
-/// logarithm and with what it drops, `close` with the number of open sessions and with what it drops.
+/// Only `ids` and the calls that prepare take memory. `find`, `cached`, `batch`, `has_batch`, `confirm`, `register`, `keep`, `note` and
+/// `push` take a time that grows with the logarithm of what is kept, `alive` with that logarithm and with what it drops, `quiet` with
+/// the number of open sessions, and `close` with that number and with what it drops. That nobody is due is answered at once; where
+/// somebody is, `due` looks through the sessions.
 pub struct Sessions {
     order: VecDeque<Row>,
     slots: Slab<OpenSession>,
+    deadlines: Deadlines,
 }
 
 impl Model for Sessions {
@@ -66,6 +69,7 @@ impl Sessions {
         Sessions {
             order: VecDeque::new(alloc),
             slots: Slab::new(alloc),
+            deadlines: Deadlines::new(alloc),
         }
     }
 
@@ -101,6 +105,9 @@ impl Sessions {
     pub fn due(&self, time: Time) -> Option<Index>
         ensures { result ≡ first_due time (as_state self.now.sessions) }
     {
+        if time <= self.deadlines.least() {
+            return None;
+        }
         for place in 0..self.order.len() {
             let row = &self.order[place];
             if self.slots[row.slot].is_due(time) {
@@ -181,7 +188,7 @@ impl Sessions {
     {
         self.order.reserve(1)?;
         self.slots.reserve(1)?;
-        Ok(())
+        self.deadlines.prepare(self.slots.capacity())
     }
 
     /// Opens the session of this register entry, whose index is at least 1 and above every open id. There is room for it. The table keeps the
@@ -200,6 +207,7 @@ impl Sessions {
         let alloc = *self.order.allocator();
         let session = OpenSession::new(alloc, commit.index(), time, timeout);
         let slot = self.slots.insert_reserved(session);
+        self.deadlines.set(slot, time.saturating_add(timeout));
         self.order.push_back_reserved(Row {
             register: commit,
             alive: None,
@@ -236,7 +244,8 @@ impl Sessions {
         let row = &mut self.order[place];
         let slot = row.slot;
         let before = row.alive.replace(commit);
-        self.slots[slot].alive(time, seq, event);
+        let deadline = self.slots[slot].alive(time, seq, event);
+        self.deadlines.set(slot, deadline);
         close_held(before, by, lender);
     }
 
@@ -257,6 +266,7 @@ impl Sessions {
             Some(row) => {
                 let slot = close_row(row, by, lender);
                 self.slots.remove(slot);
+                self.deadlines.set(slot, u64::MAX);
             }
             None => unreachable!(),
         }
@@ -339,6 +349,7 @@ impl Sessions {
         let Sessions {
             mut order,
             slots: _slots,
+            deadlines: _deadlines,
         } = self;
         while let Some(
             Row {

@@ -1,7 +1,8 @@
 use Rattle.std.proofs.Common.{◌≡◌, ◌∙◌, ap, subst, sym, arith, IfErr, is_ok}
 use Rattle.log_model.specs.Plain.{Session}
 use Rattle.session_table.specs.Table.{Table}
-use Rattle.session_table.proofs.Tables.{changed_in, in_order, keeps_room, open_in, shows_in, slot_filled, beside_if, cells_if}
+use Rattle.session_table.specs.Deadlines.{deadline}
+use Rattle.session_table.proofs.Tables.{changed_in, in_order, spare_stays, keeps_room, open_in, shows_in, slot_filled, beside_if, cells_if}
 use Rattle.session_table.specs.Asked.{confirms_in}
 use Rattle.session_table.proofs.sessions.Sessions.confirm.Goals as goal
 
@@ -13,7 +14,7 @@ index_mut-requires c = slot_filled c.self.inside.order.items c.self.inside.slots
 
 pub invariant_of-self : goal.invariant_of-self
 invariant_of-self c =
-    in_order c.self.inside c.args.id c.open_slot-slot.result c.index_mut.result.now c.confirm.new.self c.self.invariant (changed_in c.self.inside c.args.id c.open_slot-slot.result c.index_mut.result.now c.confirm.new.self c.self.invariant c.open_slot-slot.ensures c.index_mut.ensures.value (ap (λ (x : Session). x.id) c.confirm.ensures.session))
+    in_order c.self.inside c.args.id c.open_slot-slot.result c.index_mut.result.now c.confirm.new.self c.self.invariant (changed_in c.self.inside c.args.id c.open_slot-slot.result c.index_mut.result.now c.confirm.new.self c.self.invariant c.open_slot-slot.ensures c.index_mut.ensures.value (ap (λ (x : Session). x.id) c.confirm.ensures.session)) c.index_mut.ensures.value (ap deadline c.confirm.ensures.session)
 
 pub returns-clause-answer : goal.returns-clause-answer
 returns-clause-answer c =
@@ -38,3 +39,6 @@ returns-clause-rooms c =
 pub returns-clause-cells : goal.returns-clause-cells
 returns-clause-cells c =
     cells_if c.args.id c.args.event (is_ok c.confirm.result) c.args.self.now.beside _ (beside_if c.self.inside c.args.self.now c.args.id c.open_slot-slot.result c.args.event c.index_mut.result.now c.confirm.new.self (is_ok c.confirm.result) (changed_in c.self.inside c.args.id c.open_slot-slot.result c.index_mut.result.now c.confirm.new.self c.self.invariant c.open_slot-slot.ensures c.index_mut.ensures.value (ap (λ (x : Session). x.id) c.confirm.ensures.session)) c.self.view_is (ap (λ (x : Session). x.id) c.confirm.ensures.session) c.confirm.ensures.confirmed)
+
+pub returns-clause-spare : goal.returns-clause-spare
+returns-clause-spare c = spare_stays c.self.inside c.args.self.now c.open_slot-slot.result c.index_mut.result.now c.confirm.new.self c.self.view_is c.index_mut.ensures.value

@@ -1,8 +1,13 @@
 use Rattle.std.proofs.Common.{◌∙◌, Some, ap, sym, arith}
 use Rattle.log_model.specs.Admission.{due}
 use Rattle.session_table.specs.Table.{Table, as_state}
-use Rattle.session_table.proofs.Walks.{row_cut, filled_at, due_skipped, due_here, nobody_due}
+use Rattle.session_table.proofs.Walks.{row_cut, filled_at, due_skipped, due_here, nobody_due, nobody_yet}
 use Rattle.session_table.proofs.sessions.Sessions.due.Goals as goal
+
+pub returns-then-time-least : goal.returns-then-time-least
+returns-then-time-least c =
+    nobody_yet c.args.time c.least.result c.self.inside.order.items c.self.inside.slots c.self.inside.deadlines c.self.invariant.timely c.least.ensures c.if-time-least.true
+    ∙ ap (λ (t : Table). due c.args.time (as_state t.sessions)) c.self.view_is
 
 pub index-requires : goal.index-requires
 index-requires c =

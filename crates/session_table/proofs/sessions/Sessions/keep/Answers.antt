@@ -2,7 +2,8 @@ use Rattle.std.proofs.Common.{◌∙◌, ap, subst, sym, arith}
 use Rattle.log_model.specs.Plain.{Session}
 use Rattle.log_model.specs.Step.{changed, with_reply}
 use Rattle.session_table.specs.Table.{Table}
-use Rattle.session_table.proofs.Tables.{changed_in, in_order, open_in, shows_in, slot_filled, replies_beside, batches_beside}
+use Rattle.session_table.specs.Deadlines.{deadline}
+use Rattle.session_table.proofs.Tables.{changed_in, in_order, spare_stays, open_in, shows_in, slot_filled, replies_beside, batches_beside}
 use Rattle.session_table.specs.Asked.{NewerReply}
 use Rattle.session_table.proofs.sessions.Sessions.keep.Goals as goal
 
@@ -26,7 +27,7 @@ keep-requires-clause-index c =
 
 pub invariant_of-self : goal.invariant_of-self
 invariant_of-self c =
-    in_order c.self.inside c.args.id c.open_slot-slot.result c.index_mut.result.now c.keep.new.self c.self.invariant (changed_in c.self.inside c.args.id c.open_slot-slot.result c.index_mut.result.now c.keep.new.self c.self.invariant c.open_slot-slot.ensures c.index_mut.ensures.value (ap (λ (x : Session). x.id) c.keep.ensures.session))
+    in_order c.self.inside c.args.id c.open_slot-slot.result c.index_mut.result.now c.keep.new.self c.self.invariant (changed_in c.self.inside c.args.id c.open_slot-slot.result c.index_mut.result.now c.keep.new.self c.self.invariant c.open_slot-slot.ensures c.index_mut.ensures.value (ap (λ (x : Session). x.id) c.keep.ensures.session)) c.index_mut.ensures.value (ap deadline c.keep.ensures.session)
 
 pub returns-clause-sessions : goal.returns-clause-sessions
 returns-clause-sessions c =
@@ -43,3 +44,6 @@ returns-clause-replies c =
 pub returns-clause-batches : goal.returns-clause-batches
 returns-clause-batches c =
     λ other. batches_beside c.self.inside c.args.self.now c.args.id c.open_slot-slot.result c.index_mut.result.now c.keep.new.self (changed_in c.self.inside c.args.id c.open_slot-slot.result c.index_mut.result.now c.keep.new.self c.self.invariant c.open_slot-slot.ensures c.index_mut.ensures.value (ap (λ (x : Session). x.id) c.keep.ensures.session)) c.self.view_is other (λ e. omega (arith, c.keep.ensures.batch_room))
+
+pub returns-clause-spare : goal.returns-clause-spare
+returns-clause-spare c = spare_stays c.self.inside c.args.self.now c.open_slot-slot.result c.index_mut.result.now c.keep.new.self c.self.view_is c.index_mut.ensures.value

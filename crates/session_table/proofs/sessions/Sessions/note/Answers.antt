@@ -2,7 +2,8 @@ use Rattle.std.proofs.Common.{◌∙◌, ap, sym, arith}
 use Rattle.log_model.specs.Plain.{Session}
 use Rattle.log_model.specs.Step.{changed}
 use Rattle.session_table.specs.Table.{Table, noted}
-use Rattle.session_table.proofs.Tables.{changed_in, in_order, keeps_room, open_in, slot_filled}
+use Rattle.session_table.specs.Deadlines.{deadline}
+use Rattle.session_table.proofs.Tables.{changed_in, in_order, spare_stays, keeps_room, open_in, slot_filled}
 use Rattle.session_table.proofs.sessions.Sessions.note.Goals as goal
 
 pub open_slot-slot-requires-clause-open : goal.open_slot-slot-requires-clause-open
@@ -13,7 +14,7 @@ index_mut-requires c = slot_filled c.self.inside.order.items c.self.inside.slots
 
 pub invariant_of-self : goal.invariant_of-self
 invariant_of-self c =
-    in_order c.self.inside c.args.id c.open_slot-slot.result c.index_mut.result.now c.note.new.self c.self.invariant (changed_in c.self.inside c.args.id c.open_slot-slot.result c.index_mut.result.now c.note.new.self c.self.invariant c.open_slot-slot.ensures c.index_mut.ensures.value (ap (λ (x : Session). x.id) c.note.ensures.session))
+    in_order c.self.inside c.args.id c.open_slot-slot.result c.index_mut.result.now c.note.new.self c.self.invariant (changed_in c.self.inside c.args.id c.open_slot-slot.result c.index_mut.result.now c.note.new.self c.self.invariant c.open_slot-slot.ensures c.index_mut.ensures.value (ap (λ (x : Session). x.id) c.note.ensures.session)) c.index_mut.ensures.value (ap deadline c.note.ensures.session)
 
 pub returns-clause-sessions : goal.returns-clause-sessions
 returns-clause-sessions c =
@@ -26,3 +27,6 @@ returns-clause-beside c =
 pub returns-clause-rooms : goal.returns-clause-rooms
 returns-clause-rooms c =
     keeps_room c.self.inside c.args.self.now c.args.id c.open_slot-slot.result c.index_mut.result.now c.note.new.self (changed_in c.self.inside c.args.id c.open_slot-slot.result c.index_mut.result.now c.note.new.self c.self.invariant c.open_slot-slot.ensures c.index_mut.ensures.value (ap (λ (x : Session). x.id) c.note.ensures.session)) c.self.view_is (omega (arith, c.note.ensures.reply_room)) (omega (arith, c.note.ensures.batch_room))
+
+pub returns-clause-spare : goal.returns-clause-spare
+returns-clause-spare c = spare_stays c.self.inside c.args.self.now c.open_slot-slot.result c.index_mut.result.now c.note.new.self c.self.view_is c.index_mut.ensures.value

@@ -1,7 +1,8 @@
 use Rattle.std.proofs.Common.{ap, arith}
 use Rattle.log_model.specs.Plain.{Session}
 use Rattle.std.proofs.lemmas.Result.{on_ok_weaker}
-use Rattle.session_table.proofs.Tables.{changed_in, in_order, keeps_room, open_in, slot_filled, same_in}
+use Rattle.session_table.specs.Deadlines.{deadline}
+use Rattle.session_table.proofs.Tables.{changed_in, in_order, spare_stays, keeps_room, open_in, slot_filled, same_in}
 use Rattle.session_table.proofs.sessions.Sessions.prepare_reply.Goals as goal
 
 pub open_slot-slot-requires-clause-open : goal.open_slot-slot-requires-clause-open
@@ -12,7 +13,7 @@ index_mut-requires c = slot_filled c.self.inside.order.items c.self.inside.slots
 
 pub invariant_of-self : goal.invariant_of-self
 invariant_of-self c =
-    in_order c.self.inside c.args.id c.open_slot-slot.result c.index_mut.result.now c.prepare_reply.new.self c.self.invariant (changed_in c.self.inside c.args.id c.open_slot-slot.result c.index_mut.result.now c.prepare_reply.new.self c.self.invariant c.open_slot-slot.ensures c.index_mut.ensures.value (ap (λ (x : Session). x.id) c.prepare_reply.ensures.session))
+    in_order c.self.inside c.args.id c.open_slot-slot.result c.index_mut.result.now c.prepare_reply.new.self c.self.invariant (changed_in c.self.inside c.args.id c.open_slot-slot.result c.index_mut.result.now c.prepare_reply.new.self c.self.invariant c.open_slot-slot.ensures c.index_mut.ensures.value (ap (λ (x : Session). x.id) c.prepare_reply.ensures.session)) c.index_mut.ensures.value (ap deadline c.prepare_reply.ensures.session)
 
 pub returns-clause-ok : goal.returns-clause-ok
 returns-clause-ok c =
@@ -25,3 +26,6 @@ returns-clause-same c =
 pub returns-clause-rooms : goal.returns-clause-rooms
 returns-clause-rooms c =
     keeps_room c.self.inside c.args.self.now c.args.id c.open_slot-slot.result c.index_mut.result.now c.prepare_reply.new.self (changed_in c.self.inside c.args.id c.open_slot-slot.result c.index_mut.result.now c.prepare_reply.new.self c.self.invariant c.open_slot-slot.ensures c.index_mut.ensures.value (ap (λ (x : Session). x.id) c.prepare_reply.ensures.session)) c.self.view_is (omega (arith, c.prepare_reply.ensures.reply_room)) (omega (arith, c.prepare_reply.ensures.batch_room))
+
+pub returns-clause-spare : goal.returns-clause-spare
+returns-clause-spare c = spare_stays c.self.inside c.args.self.now c.open_slot-slot.result c.index_mut.result.now c.prepare_reply.new.self c.self.view_is c.index_mut.ensures.value
