@@ -1,23 +1,25 @@
 -- Files may hold whatever the catalog decides.
-use Rattle.std.proofs.Common.{◌≡◌, ℕ, ℤ, ◌+ℤ◌, Bool, true, false, cond, ◌==◌, nat_le, List, [], Option, Some, None, is_some, refl, subst, ◌∙◌}
-use Rattle.std.specs.Option.{option_map_or}
-use Rattle.host_types.specs.Cells.{Name_at, Held, Cells, at, is_text}
+use Rattle.std.proofs.Common.{◌≡◌, ℕ, Bool, true, false, cond, ◌&&◌, ◌==◌, nat_le, List, Option, Some, None, refl, subst, ◌∙◌}
+use Rattle.host_types.specs.Cells.{Name_at, Held, Cells, at, is_of_kind}
 use Rattle.host_types.specs.Decision.{Choice, Decides, Declines}
+use Rattle.host_types.specs.declared.entry.Cell.{Cell}
 use Rattle.host_types.specs.declared.entry.Cell.TheVariants.{One}
+use Rattle.host_types.specs.declared.entry.Content.{Content}
 use Rattle.host_types.specs.declared.entry.Content.TheVariants.{Text, Number}
+use Rattle.host_types.specs.declared.entry.Effect.{Effect}
 use Rattle.host_types.specs.declared.entry.Effect.TheVariants.{Nothing, Create as Creates, Put, Drop}
 use Rattle.host_types.specs.declared.entry.Kind.{Kind}
 use Rattle.host_types.specs.declared.entry.Kind.TheVariants.{Value, Counter}
 use Rattle.host_types.specs.declared.entry.Op.{Op}
-use Rattle.host_types.specs.declared.entry.Op.TheVariants.{Create, Delete, Set, GetSet, Cas, Unset, Get, Reset, Add}
+use Rattle.host_types.specs.declared.entry.Op.TheVariants.{Create, Delete}
 use Rattle.host_types.specs.declared.entry.Refusal.TheVariants.{Kind as Other_kind, Names}
-use Rattle.host_types.specs.declared.entry.Reply.TheVariants.{None as No_reply, Number as Number_reply, Truth, Index}
+use Rattle.host_types.specs.declared.entry.Reply.TheVariants.{Index}
 use Rattle.log_model.specs.Commands.{name_limit, kind_number}
-use Rattle.log_model.specs.Deciding.{call_of, chosen}
-use Rattle.log_model.specs.Plain.{Value_is, Counter_is}
-use Rattle.log_model.specs.Rows.{Row, Does, Out_of_range, either, looks, value_row, counter_row, text_or_none, fits_i64}
-use Rattle.segment_files.specs.Parse.{is_built_effect, is_built_kind}
-use Rattle.resource_catalog.specs.Kinds.{is_built, decision_of}
+use Rattle.log_model.specs.KindEffects.{has_cell, stores}
+use Rattle.log_model.specs.Reading.{kind_decision}
+use Rattle.log_model.proofs.RowStores.{kind_stores}
+use Rattle.segment_files.specs.Parse.{is_built_effect, is_built_cell, is_built_content, is_built_kind}
+use Rattle.resource_catalog.specs.Kinds.{is_built, unbuilt, decision_of}
 use Rattle.resource_catalog.specs.Catalog.{part, names_in, choice_new, choice_there, choice_kind, choice_at, catalog_decision}
 use Rattle.host_recovery.specs.Standing.{StoresBuilt}
 
@@ -30,32 +32,36 @@ built_cond : (b : Bool) (x y : Choice) → HasBuiltEffect x → HasBuiltEffect y
 built_cond true x y h k = h
 built_cond false x y h k = k
 
--- ---- what values and counters decide
+-- ---- what the kinds that are built store
 
-built_either : (kind : Kind) (b : Bool) (r s : Row) → HasBuiltEffect (chosen kind r) → HasBuiltEffect (chosen kind s) → HasBuiltEffect (chosen kind (either b r s))
-built_either kind true r s h k = h
-built_either kind false r s h k = k
+built_put : (kind : Kind) (cell : Cell) (content : Content) → is_built kind ≡ true → is_of_kind kind cell content ≡ true → (is_built_cell cell && is_built_content content) ≡ true
+built_put Value One (Text word) built own = refl
+built_put Counter One (Number number) built own = refl
+built_put _ _ _ built own = absurd (cc)
 
-of_value : (m session index : ℕ) (cur : Option (List ℕ)) (op : Op) → HasBuiltEffect (chosen Value (value_row (call_of [] m session index) cur op))
-of_value m session index cur (Set word) = refl
-of_value m session index cur (GetSet word) = refl
-of_value m session index cur (Cas old new) = built_either Value (option_map_or (is_text old) cur false) (Does (Put m One (Text new) None) (Truth true) (Value_is (Some new)) []) (looks (Truth false) (Value_is cur)) refl refl
-of_value m session index cur Unset = built_either Value (is_some cur) (Does (Drop m One) (text_or_none cur) (Value_is None) []) (looks No_reply (Value_is cur)) refl refl
-of_value m session index cur Get = refl
-of_value m session index cur op = tt
+built_drop : (kind : Kind) (cell : Cell) → is_built kind ≡ true → has_cell kind cell ≡ true → is_built_cell cell ≡ true
+built_drop Value One built own = refl
+built_drop Counter One built own = refl
+built_drop _ _ built own = absurd (cc)
 
-of_counter : (m session index : ℕ) (cur : ℤ) (op : Op) → HasBuiltEffect (chosen Counter (counter_row (call_of [] m session index) cur op))
-of_counter m session index cur (Reset number) = refl
-of_counter m session index cur (Add number) =
-    let sum = cur +ℤ number in
-    built_either Counter (fits_i64 sum) (Does (Put m One (Number sum) None) (Number_reply sum) (Counter_is sum) []) (Out_of_range cur) refl tt
-of_counter m session index cur Get = refl
-of_counter m session index cur op = tt
+built_effect : (kind : Kind) (effect : Effect) → is_built kind ≡ true → stores kind effect ≡ true → is_built_effect effect ≡ true
+built_effect kind Nothing built own = refl
+built_effect kind (Put m cell content owner) built own = built_put kind cell content built own
+built_effect kind (Drop m cell) built own = built_drop kind cell built own
+built_effect Value effect built own = absurd (cc)
+built_effect Counter effect built own = absurd (cc)
+built_effect _ effect built own = absurd (cc)
 
 of_kind : (kind : Kind) (m : ℕ) (c : Cells) (op : Op) (session index : ℕ) → HasBuiltEffect ((decision_of kind).resolve m c op session index)
-of_kind Value m c op session index = of_value m session index _ op
-of_kind Counter m c op session index = of_counter m session index _ op
-of_kind _ m c op session index = tt
+of_kind kind m c op session index = go (is_built kind) refl
+  where
+    decided : is_built kind ≡ true → (choice : Choice) → (kind_decision kind).resolve m c op session index ≡ choice → HasBuiltEffect choice
+    decided built (Decides effect reply) e = built_effect kind effect built (kind_stores kind m c op session index effect reply e)
+    decided built (Declines refusal) e = tt
+
+    go : (b : Bool) → is_built kind ≡ b → HasBuiltEffect ((cond b (kind_decision kind) (unbuilt kind)).resolve m c op session index)
+    go true built = decided built ((kind_decision kind).resolve m c op session index) refl
+    go false built = tt
 
 -- ---- what the catalog decides
 

@@ -1,5 +1,4 @@
 pub mod Rising
-pub mod Serving
 pub mod Kept
 pub mod Inside
 pub mod Taking

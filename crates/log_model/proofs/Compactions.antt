@@ -223,7 +223,7 @@ tombstone_released all k j t at_j tomb low =
         absurd (cc))
         (put_by (λ i e. entry_at (numbered all) i ≡ Some e) (up_to k (numbered all)) known [] f.0 f.1 f.2)
 
-pub major_keeps : (left : Numbered) (all : List Entry) (quiet k f floor g : ℕ) (span : Span) → Cleaned left all quiet k f → f ≤ floor → ((j : ℕ) (t : Entry) → entry_at left j ≡ Some t → may_go left span (is_released (numbered all) quiet) (length all) quiet g (j, t) ≡ true → j ≤ floor) → Cleaned (after_major left span (is_released (numbered all) quiet) (length all) quiet g) all quiet quiet floor
+pub major_keeps : (left : Numbered) (all : List Entry) (quiet k f floor g : ℕ) (span : Span) → Cleaned left all quiet k f → f ≤ floor → ((j : ℕ) (t : Entry) → entry_at left j ≡ Some t → is_within span j ≡ true → may_go left span (is_released (numbered all) quiet) (length all) quiet g (j, t) ≡ true → j ≤ floor) → Cleaned (after_major left span (is_released (numbered all) quiet) (length all) quiet g) all quiet quiet floor
 major_keeps left all quiet k f floor g span h low removed =
     filtered left all quiet k f floor h pass
     (λ e. or_right (not (is_within span end)) _ (and_from (stays released end (end, e)) (not (goes (end, e))) (last_stays released end e) (ap not (last_goes e))))
@@ -231,7 +231,7 @@ major_keeps left all quiet k f floor g span h low removed =
     low
     (λ j t at_j out tomb.
     let go = may_go_at j t tomb (and_cases (stays released end (j, t)) (not (goes (j, t))) (or_parts (not (is_within span j)) _ out).1) in
-    (removed j t at_j go, λ i e at_i in' less. apart j t at_j go i e at_i less in' (covers_any t.body (puts i e.body)) refl))
+    (removed j t at_j (not-false _ (or_parts (not (is_within span j)) _ out).0) go, λ i e at_i in' less. apart j t at_j go i e at_i less in' (covers_any t.body (puts i e.body)) refl))
   where
     end : ℕ
     end = length all

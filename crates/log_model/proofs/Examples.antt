@@ -26,6 +26,7 @@ use Rattle.log_model.specs.Quiet.{quiet}
 use Rattle.log_model.specs.Step.{folded}
 use Rattle.log_model.specs.Stored.{stored, is_log}
 use Rattle.log_model.specs.Kept.{Span, is_within, kept_minor, kept_major}
+use Rattle.log_model.specs.Rows.{count_reply}
 
 abbrev pub offered : ℕ → Ask → Item
 offered time ask = Offered (record { time = time; ask = ask })
@@ -173,6 +174,10 @@ end_of_the_type_zero = refl
 
 end_of_the_type_replies : replies_of (stored (end_of_the_type ++ does 4 1 3 (codes "c") (Add (pos 0)) ∷ [])) ≡ Index 2 ∷ No_reply ∷ Number (pos 9223372036854775807) ∷ []
 end_of_the_type_replies = refl
+
+-- a count beyond the end of the type is told as that end
+end_of_the_type_counts : map count_reply (2 ∷ 9223372036854775807 ∷ 9223372036854775808 ∷ []) ≡ Number (pos 2) ∷ Number (pos 9223372036854775807) ∷ Number (pos 9223372036854775807) ∷ []
+end_of_the_type_counts = refl
 
 -- ordinary use
 abbrev pub ordinary_use : List Item

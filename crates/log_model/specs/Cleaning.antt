@@ -1,18 +1,15 @@
 -- A log that was cleaned, what a compaction keeps, and the law that joins them to the whole log.
-use Rattle.std.specs.Prelude.{◌+◌, ◌≡◌, ℕ, ◌<◌, ◌≤◌, Bool, true, false, ◌&&◌, ◌==◌, List, [], ◌∷◌, ◌++◌, length, Option, Some, None, is_some, IsTrue}
+use Rattle.std.specs.Prelude.{◌+◌, ◌≡◌, ℕ, ◌<◌, ◌≤◌, Bool, true, false, ◌&&◌, List, [], ◌∷◌, ◌++◌, length, Option, Some, None, is_some, IsTrue}
 use Rattle.std.specs.List.{enumerate_from}
-use Rattle.std.specs.Option.{option_map_or}
 use Rattle.std.specs.FinMap.{find, is_sorted}
 use Rattle.std.specs.Ordering.{nat_cmp}
-use Rattle.host_types.specs.declared.entry.Effect.{Effect}
-use Rattle.host_types.specs.declared.entry.Effect.TheVariants.{Delete}
 use Rattle.host_types.specs.declared.entry.Body.{Body}
 use Rattle.host_types.specs.declared.entry.Body.TheVariants.{Command}
 use Rattle.host_types.specs.declared.entry.Entry.{Entry}
 use Rattle.log_model.specs.Admission.{Item}
 use Rattle.log_model.specs.Quiet.{quiet}
 use Rattle.log_model.specs.Stored.{stored, is_log}
-use Rattle.host_types.specs.Cells.{Place, Name_at, Held, Cells, at}
+use Rattle.host_types.specs.Cells.{Place, Held, Cells, at, deletes_standing}
 use Rattle.log_model.specs.Cells.{puts, covers_any, is_tombstone, fits, after, Numbered, cells, up_to, is_released}
 
 -- stored entries with their indexes, from 1 on
@@ -30,11 +27,6 @@ pub record Cleaned (left : Numbered) (all : List Entry) (quiet k f : ℕ) : Type
   pub is_quiet : k ≤ quiet
   pub gone_released : (i : ℕ) → 1 ≤ i → i ≤ length all → entry_at left i ≡ None → IsTrue (is_released (numbered all) k i)
   pub gone_tombstones : (j : ℕ) (t : Entry) → entry_at (numbered all) j ≡ Some t → entry_at left j ≡ None → IsTrue (is_tombstone t.body) → (j ≤ f) × ((i : ℕ) (e : Entry) → entry_at left i ≡ Some e → i < j → covers_any t.body (puts i e.body) ≡ false)
-
--- a deleted name stands with the instance that is deleted
-abbrev pub deletes_standing : Cells → Effect → Bool
-deletes_standing standing (Delete name instance) = option_map_or (λ held. held.index == instance) (at standing (Name_at name)) false
-deletes_standing standing _ = true
 
 abbrev pub closes_standing : Cells → Body → Bool
 closes_standing standing (Command session seq effect reply) = deletes_standing standing effect

@@ -1,4 +1,4 @@
--- What a kind's crate shows of its rows so that its decision is lawful: for each row one of the forms below.
+-- When a row is lawful, with the forms that rows have; and that a cell has one owner, whoever puts it.
 use Rattle.std.specs.Prelude.{◌≡◌, ◌≢◌, ◌⊎◌, ℕ, Bool, true, false, cond, ◌&&◌, [], ◌∷◌, Option, Some, None, refl}
 use Rattle.std.proofs.Common.{inl, arith, lit<, ap, sym, subst, ◌∙◌}
 use Rattle.std.specs.Cmp.{nat_eq_equiv}
@@ -7,7 +7,7 @@ use Rattle.std.specs.declared.cmp.Ordering.{Ordering}
 use Rattle.std.specs.declared.cmp.Ordering.TheVariants.{Less, Equal, Greater}
 use Rattle.host_types.specs.Cells.{Place, Cell_at, Held, Cells, place_cmp, at, filled, effect_puts, instance_fits, is_of_kind}
 use Rattle.host_types.proofs.Places.{exact_places}
-use Rattle.host_types.specs.Ranges.{IsIndex, IsUnsigned, CellFits, IsCellInRange, ContentFits, ReplyFits, IsReplyInRange, AreCellsInRange}
+use Rattle.host_types.specs.Ranges.{IsIndex, IsUnsigned, CellFits, IsCellInRange, ContentFits, ReplyFits, IsReplyInRange}
 use Rattle.host_types.specs.Decision.{Decides, IsLawful, OwnersAgree}
 use Rattle.host_types.specs.declared.entry.Kind.{Kind}
 use Rattle.host_types.specs.declared.entry.Cell.{Cell}
@@ -110,10 +110,6 @@ abbrev pub SuitsRow : ℕ → ℕ → Row → Type 0
 SuitsRow index session (Does effect reply next told) = EffectSuits index session effect
 SuitsRow index session _ = Unit {0}
 
-pub suits_either : (index session : ℕ) (b : Bool) (r s : Row) → SuitsRow index session r → SuitsRow index session s → SuitsRow index session (either b r s)
-suits_either index session true r s h k = h
-suits_either index session false r s h k = k
-
 pub suits_choice : (kind : Kind) (index session : ℕ) (r : Row) (effect : Effect) (reply : Reply) → SuitsRow index session r → chosen kind r ≡ Decides effect reply → EffectSuits index session effect
 suits_choice kind index session (Does effect' reply' next told) effect reply suits same = let same_effect : effect' ≡ effect = (cc) in subst (EffectSuits index session) same_effect suits
 suits_choice kind index session (Out_of_range cur) effect reply suits same = absurd (cc)
@@ -153,7 +149,3 @@ suits_agree index index' session session' (Put m cell content owner) (Put m' cel
 suits_agree index index' session session' (Create name kind) effect' apart h h' = absurd h
 suits_agree index index' session session' effect (Create name kind) apart h h' = absurd h'
 suits_agree index index' session session' effect effect' apart h h' = λ place held other found found'. absurd (cc)
-
--- what is held is in its ranges
-pub content_in_range : (cells : Cells) (place : Place) (held : Held) → AreCellsInRange cells → at cells place ≡ Some held → ContentFits held.content
-content_in_range cells place held right found = (right place held found).1.content

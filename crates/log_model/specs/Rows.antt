@@ -1,5 +1,5 @@
 -- What each operation does to a plain resource, what is stored of it, and what it answers and tells.
-use Rattle.std.specs.Prelude.{ℕ, ℤ, pos, negsuc, ◌+ℤ◌, Bool, true, false, cond, not, ◌&&◌, ◌==◌, int_le, List, [], ◌∷◌, ◌++◌, map, length, take, Option, Some, None, is_some}
+use Rattle.std.specs.Prelude.{ℕ, ℤ, pos, negsuc, ◌+ℤ◌, min, Bool, true, false, cond, not, ◌&&◌, ◌==◌, int_le, List, [], ◌∷◌, ◌++◌, map, length, take, Option, Some, None, is_some}
 use Rattle.std.specs.List.{filter, list_any, find as find_first, count_by, flat_map}
 use Rattle.std.specs.Option.{option_map_or}
 use Rattle.std.specs.FinMap.Entries.{put, find, where_key}
@@ -49,8 +49,12 @@ abbrev pub text_or_none : Option (List ℕ) → Reply
 text_or_none None = No_reply
 text_or_none (Some word) = Text_reply word
 
+-- how many there are, as a reply tells it: a greater number is told as the greatest one of 8 signed bytes
+abbrev pub counted : ℕ → ℕ
+counted n = min n 9223372036854775807
+
 abbrev pub count_reply : ℕ → Reply
-count_reply n = Number_reply (pos n)
+count_reply n = Number_reply (pos (counted n))
 
 -- the first row where the test is true, else the second
 abbrev pub either : Bool → Row → Row → Row

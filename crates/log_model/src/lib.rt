@@ -3,11 +3,14 @@
 
 ghost use Rattle.log_model.specs.Cleaning.{AppendKeeps, CentralLaw, CentralLawOfLogs, FreshIsCleaned, ReleasedGrows};
 ghost use Rattle.log_model.specs.Kept.{MajorKeeps, MinorKeeps};
+ghost use Rattle.log_model.specs.KindEffects.{KindsStoreTheirOwn};
 ghost use Rattle.log_model.specs.Machines.{AdmittedIsInRange, AdmittedKeepsSound, CentralLawOfMachines, HostedLogGrows, HostedLogIsWhole, HostedQuietGrows, LogsAreSound, MarksLawOfMachines};
 ghost use Rattle.log_model.specs.OneByOne.{ChangesCompose, PushesAreBatches};
 ghost use Rattle.log_model.specs.Parts.{AlivesFollow, MachinePartFollows, PlacesAreParted, SessionPlacesAre};
 ghost use Rattle.log_model.specs.PlainMachine.{PlainMachinesArePlain};
+ghost use Rattle.log_model.specs.PlainRanges.{RowsAreLawful};
 ghost use Rattle.log_model.specs.Quiet.{QuietGrows, QuietIsGreatest};
+ghost use Rattle.log_model.specs.Reading.{DecidesByItsOwnCells, KindsAreLawful, KindsDecideAsPlain, KindsHaveOneOwner, KindsKeepShowing, ReadsItsOwnCells, ReadsWhatIsShown};
 ghost use Rattle.log_model.specs.Released.{MarksFollow, MarksLaw};
 ghost use Rattle.log_model.specs.ReplayLaws.{AdmittedIsReplayed, ReplayGivesFold, ReplayGivesHostedFold, ReplayLaw};
 ghost use Rattle.log_model.specs.Serving.{AcksArePoints, BatchesAreLinked, BatchesGrow, ClientTakesAll, ClientTakesRun, KeepsTheRest};
@@ -250,4 +253,49 @@ pub fn resource_closes_show()
 /// What an open session acknowledged is its id or the index of one of its batches, so that a client may start there.
 pub fn acks_are_points()
     ensures { AcksArePoints }
+{}
+
+/// Where cells in order show a plain resource, it is read off them, of each kind.
+pub fn what_is_shown_is_read()
+    ensures { ReadsWhatIsShown }
+{}
+
+/// It is read off the cells of its instance alone.
+pub fn own_cells_are_read()
+    ensures { ReadsItsOwnCells }
+{}
+
+/// So are the decision and the events of its kind.
+pub fn own_cells_decide()
+    ensures { DecidesByItsOwnCells }
+{}
+
+/// Where cells in order show a plain resource, the decision of its kind is what the plain step does, of each kind.
+pub fn kinds_decide_as_plain()
+    ensures { KindsDecideAsPlain }
+{}
+
+/// The cells of each kind go on to show its plain resource.
+pub fn kinds_keep_showing()
+    ensures { KindsKeepShowing }
+{}
+
+/// Each row of a plain resource in range is lawful.
+pub fn rows_are_lawful()
+    ensures { RowsAreLawful }
+{}
+
+/// What each kind decides is lawful.
+pub fn kinds_are_lawful()
+    ensures { KindsAreLawful }
+{}
+
+/// What each kind puts has the owner that its place has.
+pub fn kinds_have_one_owner()
+    ensures { KindsHaveOneOwner }
+{}
+
+/// Each kind stores effects on cells of its own alone.
+pub fn kinds_store_their_own()
+    ensures { KindsStoreTheirOwn }
 {}

@@ -5,6 +5,7 @@ pub mod Created
 pub mod Deleted
 pub mod Effects
 pub mod Entries
+pub mod Instances
 pub mod Keeps
 pub mod Kept
 pub mod Loops

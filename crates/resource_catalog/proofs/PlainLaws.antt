@@ -1,10 +1,12 @@
 -- Wherever the cells show a plain state whose resources are of kinds that are built, the catalog does what its next entry does, if
 -- each kind does so on its own instance.
-use Rattle.std.proofs.Common.{◌≡◌, ℕ, ◌+◌, Bool, true, false, cond, List, [], ◌∷◌, ◌++◌, length, Option, Some, None, refl, sym, ap, ◌∙◌}
+use Rattle.std.proofs.Common.{◌≡◌, ℕ, ◌+◌, Bool, true, false, cond, List, [], ◌∷◌, ◌++◌, length, Option, Some, None, refl, sym, ap, subst, ◌∙◌}
 use Rattle.std.specs.Prelude.{nat_le, ◌==◌}
 use Rattle.std.specs.List.{flat_map}
+use Rattle.std.specs.FinMap.Entries.{find, is_sorted, is_sorted-where_key}
+use Rattle.std.specs.Ordering.{nat_cmp}
 use Rattle.std.specs.Cmp.{nat_eq_equiv}
-use Rattle.host_types.specs.Cells.{Name_at, Cell_at, Held, Cells, at, named as held_name}
+use Rattle.host_types.specs.Cells.{Name_at, Cell_at, Held, Cells, place_cmp, at, named as held_name}
 use Rattle.host_types.specs.Decision.{Decides, Declines, is_looking}
 use Rattle.host_types.specs.declared.entry.Kind.{Kind}
 use Rattle.host_types.specs.declared.entry.Kind.TheVariants as kinds
@@ -12,31 +14,37 @@ use Rattle.host_types.specs.declared.entry.Cell.{Cell}
 use Rattle.host_types.specs.declared.entry.Effect.{Effect}
 use Rattle.host_types.specs.declared.entry.Op.{Op}
 use Rattle.host_types.specs.declared.entry.Op.TheVariants.{Create, Delete}
-use Rattle.host_types.specs.declared.entry.Effect.TheVariants.{Nothing, Create as Creates, Delete as Deletes}
+use Rattle.host_types.specs.declared.entry.Effect.TheVariants.{Create as Creates, Delete as Deletes}
 use Rattle.host_types.specs.declared.entry.Reply.TheVariants.{None as No_reply, Index}
 use Rattle.host_types.specs.declared.entry.Refusal.TheVariants.{Kind as Other_kind, Names}
-use Rattle.log_model.specs.Batches.{told_outcome}
-use Rattle.log_model.specs.Plain.{Named_resource, State, named, kind_of, new_plain}
+use Rattle.log_model.specs.Plain.{Named_resource, State, named, kind_of}
 use Rattle.log_model.specs.PlainMachine.{choice_of}
 use Rattle.log_model.specs.Rows.{Row, Does, Out_of_range, Of_no_kind, row, without_session}
-use Rattle.log_model.specs.Commands.{Outcome, Decided, Declined, outcome, outcome_at, outcome_new, outcome_there, row_outcome, shown_by, plain_look, name_limit, kind_number}
+use Rattle.log_model.specs.Step.{told_close}
+use Rattle.log_model.specs.Commands.{Outcome, outcome, outcome_at, outcome_new, outcome_there, row_outcome, shown_by, plain_look, name_limit, kind_number}
 use Rattle.log_model.specs.Shows.{Shows}
-use Rattle.log_model.specs.Telling.{name_held, EachName, ShowsState}
-use Rattle.log_model.specs.Deciding.{chosen, shown, call_of}
-use Rattle.log_model.proofs.Tellings.{shown_found}
+use Rattle.log_model.specs.Reading.{kind_decision}
+use Rattle.log_model.specs.Telling.{effect_instance, tells_kind as told_kind, tells_there, tells_at, name_held, by_instance, EachName, ShowsState}
+use Rattle.log_model.specs.Deciding.{chosen, shown, call_of, DecidesAsPlain}
+use Rattle.log_model.proofs.AsPlain.{as_plain}
+use Rattle.log_model.proofs.Lookups.{T_from, from_T}
+use Rattle.log_model.proofs.Readings.{decides_own}
+use Rattle.log_model.proofs.ShownCloses.{others_shown}
+use Rattle.log_model.proofs.Tellings.{name_found, names_are, tells_shown, shown_found}
 use Rattle.log_model.proofs.Tracks.{find_passes, same_text}
-use Rattle.resource_catalog.specs.Kinds.{is_built, decision_of}
-use Rattle.resource_catalog.specs.Catalog.{names_in, part, instance_of, instances, choice_new, choice_there, choice_at, look_at, tells_kind, tells_named, tells_on, catalog_decision}
+use Rattle.resource_catalog.specs.Kinds.{is_built, unbuilt, decision_of}
+use Rattle.resource_catalog.specs.Catalog.{is_place_of, names_in, part, instances, choice_new, choice_there, choice_at, look_at, tells_kind, tells_named, tells_on, closes_kind, catalog_decision}
 use Rattle.resource_catalog.specs.CatalogLaws.{at_part}
-use Rattle.resource_catalog.specs.PlainNames.{EachIsBuilt, IsOfBuilt, DecidesAsModel, KindsArePlain}
+use Rattle.resource_catalog.specs.PlainNames.{EachIsBuilt, IsOfBuilt, DecidesAsModel}
 use Rattle.resource_catalog.proofs.Counted.{names_counted}
-use Rattle.resource_catalog.proofs.Kept.{closes_nothing, told_none}
+use Rattle.resource_catalog.proofs.Kept.{told_none}
 
 -- the name stands with its instance and kind, which is built, and its cells show its plain resource
 record ShowsName (cells : Cells) (name : List ℕ) (n : Named_resource) : Type 0 where
   pub same : n.name ≡ name
   pub stands : at cells (Name_at name) ≡ Some (held_name n.instance (kind_of n.plain))
   pub built : is_built (kind_of n.plain) ≡ true
+  pub rises : is_sorted place_cmp cells ≡ true
   pub shows : Shows n.instance cells n.plain
 
 -- ---- outcomes
@@ -62,25 +70,33 @@ new_same cells s name (Create kind) i counts built =
     (λ j. cond (nat_le name_limit (counts j)) (Declines Names) (cond (built j) (Decides (Creates name kind) (Index i)) (Declines (Other_kind kind)))) ∙ sym (choice_cond (nat_le name_limit (length s.names)) _ _)
 new_same cells s name op i counts built = refl
 
+-- ---- a kind that is built, on its own part of the cells
+
+built_plain : (kind : Kind) → is_built kind ≡ true → DecidesAsPlain kind (decision_of kind)
+built_plain kind built = subst (DecidesAsPlain kind) (ap (λ b. cond b (kind_decision kind) (unbuilt kind)) (sym built)) (as_plain kind)
+
+part_rises : (m : ℕ) (cells : Cells) → is_sorted place_cmp cells ≡ true → is_sorted place_cmp (part m cells) ≡ true
+part_rises m cells rises = from_T _ (is_sorted-where_key place_cmp (is_place_of m) cells (T_from _ rises))
+
+at_own : (m : ℕ) (cells : Cells) (cell : Cell) → at (part m cells) (Cell_at m cell) ≡ at cells (Cell_at m cell)
+at_own m cells cell = at_part m cells (Cell_at m cell) ∙ ap (λ b. cond b (at cells (Cell_at m cell)) None) (nat_eq_equiv.refl m)
+
+part_shows : (cells : Cells) (n : Named_resource) → Shows n.instance cells n.plain → Shows n.instance (part n.instance cells) n.plain
+part_shows cells n shows = others_shown cells (part n.instance cells) n.instance n.plain (at_own n.instance cells) shows
+
 -- ---- a name that is there
 
-part_shows : (all : KindsArePlain) (cells : Cells) (name : List ℕ) (n : Named_resource) → ShowsName cells name n → Shows n.instance (part n.instance cells) n.plain
-part_shows all cells name n t = (all (kind_of n.plain) t.built).1.stays n.instance cells (part n.instance cells) n.plain refl (λ cell. here cell) t.shows
-  where
-    here : (cell : Cell) → at (part n.instance cells) (Cell_at n.instance cell) ≡ at cells (Cell_at n.instance cell)
-    here cell = at_part n.instance cells (Cell_at n.instance cell) ∙ ap (λ b. cond b (at cells (Cell_at n.instance cell)) None) (nat_eq_equiv.refl n.instance)
+there_same : (cells : Cells) (s : State) (name : List ℕ) (n : Named_resource) (op : Op) (session i : ℕ) → ShowsName cells name n → choice_there cells name n.instance (kind_of n.plain) op session i ≡ choice_of (outcome_there s.names n session i op)
+there_same cells s name n (Create kind) session i t = sym (choice_cond (kind_number kind == kind_number (kind_of n.plain)) _ _)
+there_same cells s name n Delete session i t = ap (λ x. Decides (Deletes x n.instance) No_reply) (sym t.same)
+there_same cells s name n op session i t =
+    (built_plain (kind_of n.plain) t.built).resolves n.instance (part n.instance cells) n.plain refl (part_rises n.instance cells t.rises) (part_shows cells n t.shows) n.name op session i ∙ sym (row_choice s.names n (row (call_of n.name n.instance session i) n.plain op))
 
-there_same : (all : KindsArePlain) (cells : Cells) (s : State) (name : List ℕ) (n : Named_resource) (op : Op) (session i : ℕ) → ShowsName cells name n → choice_there cells name n.instance (kind_of n.plain) op session i ≡ choice_of (outcome_there s.names n session i op)
-there_same all cells s name n (Create kind) session i t = sym (choice_cond (kind_number kind == kind_number (kind_of n.plain)) _ _)
-there_same all cells s name n Delete session i t = ap (λ x. Decides (Deletes x n.instance) No_reply) (sym t.same)
-there_same all cells s name n op session i t =
-    (all (kind_of n.plain) t.built).0.resolves n.instance (part n.instance cells) n.plain refl (part_shows all cells name n t) n.name op session i ∙ sym (row_choice s.names n (row (call_of n.name n.instance session i) n.plain op))
-
-look_same : (all : KindsArePlain) (cells : Cells) (s : State) (name : List ℕ) (n : Named_resource) (op : Op) (session i : ℕ) → ShowsName cells name n → is_looking op ≡ true → (decision_of (kind_of n.plain)).look n.instance (part n.instance cells) op ≡ shown_by (outcome_there s.names n session i op)
-look_same all cells s name n (Create kind) session i t looking = absurd (cc)
-look_same all cells s name n Delete session i t looking = absurd (cc)
-look_same all cells s name n op session i t looking =
-    (all (kind_of n.plain) t.built).0.looks n.instance (part n.instance cells) n.plain refl (part_shows all cells name n t) n.name op session i looking ∙ sym (row_shown s.names n (row (call_of n.name n.instance session i) n.plain op))
+look_same : (cells : Cells) (s : State) (name : List ℕ) (n : Named_resource) (op : Op) (session i : ℕ) → ShowsName cells name n → is_looking op ≡ true → (decision_of (kind_of n.plain)).look n.instance (part n.instance cells) op ≡ shown_by (outcome_there s.names n session i op)
+look_same cells s name n (Create kind) session i t looking = absurd (cc)
+look_same cells s name n Delete session i t looking = absurd (cc)
+look_same cells s name n op session i t looking =
+    (built_plain (kind_of n.plain) t.built).looks n.instance (part n.instance cells) n.plain refl (part_rises n.instance cells t.rises) (part_shows cells n t.shows) n.name op session i looking ∙ sym (row_shown s.names n (row (call_of n.name n.instance session i) n.plain op))
 
 look_new : (s : State) (name : List ℕ) (i : ℕ) (op : Op) → is_looking op ≡ true → look_at [] None op ≡ shown_by (outcome_new s.names name i op)
 look_new s name i (Create kind) looking = absurd (cc)
@@ -94,7 +110,7 @@ tells_nothing kinds.Counter m c name effect i = refl
 tells_nothing _ m c name effect i = refl
 
 pub catalog_tells_nothing : (cells : Cells) (effect : Effect) (i : ℕ) → catalog_decision.tells cells effect i ≡ []
-catalog_tells_nothing cells effect i = on (instance_of effect)
+catalog_tells_nothing cells effect i = on (effect_instance effect)
   where
     known : (m : ℕ) (name : List ℕ) (k : Option Kind) → tells_kind cells m name k effect i ≡ []
     known m name None = refl
@@ -106,35 +122,21 @@ catalog_tells_nothing cells effect i = on (instance_of effect)
 
     on : (o : Option ℕ) → tells_on cells o effect i ≡ []
     on None = refl
-    on (Some m) = found m (Rattle.std.specs.FinMap.Entries.find Rattle.std.specs.Ordering.nat_cmp m (instances cells))
+    on (Some m) = found m (find nat_cmp m (instances cells))
 
 pub catalog_closes_silently : (cells : Cells) (session : ℕ) → catalog_decision.tells_close cells session ≡ []
 catalog_closes_silently cells session = told_none cells session (instances cells)
 
-row_told : (all : KindsArePlain) (cells : Cells) (s : State) (name : List ℕ) (n : Named_resource) (op : Op) (session i : ℕ) → ShowsName cells name n → told_outcome (row_outcome s.names n (row (call_of n.name n.instance session i) n.plain op)) ≡ []
-row_told all cells s name n op session i t = go (row (call_of n.name n.instance session i) n.plain op) refl
-  where
-    go : (r : Row) → row (call_of n.name n.instance session i) n.plain op ≡ r → told_outcome (row_outcome s.names n r) ≡ []
-    go (Does effect reply next told) e =
-        sym ((all (kind_of n.plain) t.built).0.tells n.instance (part n.instance cells) n.plain next refl (part_shows all cells name n t) n.name op session i effect reply told e)
-        ∙ tells_nothing (kind_of n.plain) n.instance (part n.instance cells) n.name effect i
-    go (Out_of_range cur) e = refl
-    go Of_no_kind e = refl
+-- ---- events, of any kinds
 
-there_told : (all : KindsArePlain) (cells : Cells) (s : State) (name : List ℕ) (n : Named_resource) (op : Op) (session i : ℕ) → ShowsName cells name n → told_outcome (outcome_there s.names n session i op) ≡ []
-there_told all cells s name n (Create kind) session i t =
-    elim (kind_number kind == kind_number (kind_of n.plain)) as (λ b. told_outcome (cond b (Decided Nothing (Index n.instance) s.names []) (Declined (Other_kind (kind_of n.plain)))) ≡ []) [ true ↦ refl | false ↦ refl ]
-there_told all cells s name n Delete session i t = refl
-there_told all cells s name n op session i t = row_told all cells s name n op session i t
-
-new_told : (s : State) (name : List ℕ) (i : ℕ) (op : Op) → told_outcome (outcome_new s.names name i op) ≡ []
-new_told s name i (Create kind) =
-    elim (nat_le name_limit (length s.names)) as (λ b. told_outcome (cond b (Declined Names) (Decided (Creates name kind) (Index i) (s.names ++ record { name = name; instance = i; plain = new_plain kind } ∷ []) [])) ≡ []) [ true ↦ refl | false ↦ refl ]
-new_told s name i op = refl
+kind_tells : (kind : Kind) → is_built kind ≡ true → (m : ℕ) (cells : Cells) (name : List ℕ) (effect : Effect) (i : ℕ) → is_sorted place_cmp cells ≡ true → tells_kind cells m name (Some kind) effect i ≡ told_kind cells i m name effect (Some kind)
+kind_tells kind built m cells name effect i rises =
+    (λ j. (cond (built j) (kind_decision kind) (unbuilt kind)).tells m (part m cells) name effect i)
+    ∙ (decides_own kind m cells (part m cells) rises (part_rises m cells rises) (at_own m cells)).tells name effect i
 
 -- ---- all names
 
-module _ (all : KindsArePlain) (s : State) (cells : Cells) (shows : ShowsState cells s) (built : EachIsBuilt s.names) where
+module _ (s : State) (cells : Cells) (shows : ShowsState cells s) (built : EachIsBuilt s.names) where
   absent : (name : List ℕ) → named name s ≡ None → at cells (Name_at name) ≡ None
   absent name e = shows.names name ∙ ap name_held e
 
@@ -142,6 +144,7 @@ module _ (all : KindsArePlain) (s : State) (cells : Cells) (shows : ShowsState c
   there name n e = record {
     same = sym (same_text name n.name (find_passes (λ (m : Named_resource). Rattle.host_types.specs.Cells.is_text name m.name) s.names n e));
     stands = shows.names name ∙ ap name_held e;
+    rises = shows.sorted;
     built = shown_found cells s shows (λ m. is_built (kind_of m.plain) ≡ true) name s.names n built e;
     shows = shown_found cells s shows (λ m. Shows m.instance cells m.plain) name s.names n shows.shown e;
   }
@@ -151,35 +154,46 @@ module _ (all : KindsArePlain) (s : State) (cells : Cells) (shows : ShowsState c
     where
       go : (o : Option Named_resource) → named name s ≡ o → choice_at cells name (at cells (Name_at name)) op session (s.last + 1) ≡ choice_of (outcome_at s.names o name session (s.last + 1) op)
       go None e = ap (λ (h : Option Held). choice_at cells name h op session (s.last + 1)) (absent name e) ∙ new_same cells s name op (s.last + 1) (names_counted cells s shows) of_built
-      go (Some n) e = let t = there name n e in ap (λ (h : Option Held). choice_at cells name h op session (s.last + 1)) t.stands ∙ there_same all cells s name n op session (s.last + 1) t
+      go (Some n) e = let t = there name n e in ap (λ (h : Option Held). choice_at cells name h op session (s.last + 1)) t.stands ∙ there_same cells s name n op session (s.last + 1) t
 
   looks : (name : List ℕ) (op : Op) → is_looking op ≡ true → catalog_decision.look cells name op ≡ plain_look s name op
   looks name op looking = go (named name s) refl
     where
       go : (o : Option Named_resource) → named name s ≡ o → look_at cells (at cells (Name_at name)) op ≡ shown_by (outcome_at s.names o name 0 (s.last + 1) op)
       go None e = ap (λ (h : Option Held). look_at cells h op) (absent name e) ∙ look_new s name (s.last + 1) op looking
-      go (Some n) e = let t = there name n e in ap (λ (h : Option Held). look_at cells h op) t.stands ∙ look_same all cells s name n op 0 (s.last + 1) t looking
+      go (Some n) e = let t = there name n e in ap (λ (h : Option Held). look_at cells h op) t.stands ∙ look_same cells s name n op 0 (s.last + 1) t looking
 
-  told_nothing : (name : List ℕ) (op : Op) (session : ℕ) → told_outcome (outcome s name session op) ≡ []
-  told_nothing name op session = go (named name s) refl
+  found : (m : ℕ) (effect : Effect) (i : ℕ) → tells_named cells m (find nat_cmp m (instances cells)) effect i ≡ tells_there cells i m effect (find nat_cmp m (instances cells))
+  found m effect i =
+      subst (λ l. tells_named cells m (find nat_cmp m l) effect i ≡ tells_there cells i m effect (find nat_cmp m l)) (sym (names_are cells s shows)) (known (find nat_cmp m (by_instance s.names)) refl)
     where
-      go : (o : Option Named_resource) → named name s ≡ o → told_outcome (outcome_at s.names o name session (s.last + 1) op) ≡ []
-      go None e = new_told s name (s.last + 1) op
-      go (Some n) e = there_told all cells s name n op session (s.last + 1) (there name n e)
+      known : (o : Option (List ℕ × Option Kind)) → find nat_cmp m (by_instance s.names) ≡ o → tells_named cells m o effect i ≡ tells_there cells i m effect o
+      known None e = refl
+      known (Some y) e =
+          let q = name_found (λ n. is_built (kind_of n.plain) ≡ true) s.names built m y e in
+          subst (λ (y : List ℕ × Option Kind). tells_kind cells m y.0 y.1 effect i ≡ told_kind cells i m y.0 effect y.1) q.3 (kind_tells (kind_of q.0.plain) q.1 m cells q.0.name effect i shows.sorted)
 
-  closes : (session : ℕ) (ns : List Named_resource) → EachName (λ n. is_built (kind_of n.plain) ≡ true) ns → EachName (λ n. Shows n.instance cells n.plain) ns → flat_map (λ n. (without_session n.name session n.plain).1) ns ≡ []
+  tells_same : (effect : Effect) (i : ℕ) → catalog_decision.tells cells effect i ≡ tells_at cells i effect (effect_instance effect)
+  tells_same effect i = on (effect_instance effect)
+    where
+      on : (o : Option ℕ) → tells_on cells o effect i ≡ tells_at cells i effect o
+      on None = refl
+      on (Some m) = found m effect i
+
+  closes : (session : ℕ) (ns : List Named_resource) → EachName (λ n. is_built (kind_of n.plain) ≡ true) ns → EachName (λ n. Shows n.instance cells n.plain) ns → flat_map (λ (n : ℕ × (List ℕ × Option Kind)). closes_kind cells n.0 n.1.0 n.1.1 session) (by_instance ns) ≡ flat_map (λ n. (without_session n.name session n.plain).1) ns
   closes session [] b h = refl
   closes session (n ∷ ns) b h = (λ j. one j ++ closes session ns b.1 h.1 j)
     where
-      one : (without_session n.name session n.plain).1 ≡ []
-      one =
-          sym ((all (kind_of n.plain) b.0).0.tells_close n.instance cells n.plain refl h.0 n.name session)
-          ∙ closes_nothing (kind_of n.plain) n.instance cells n.name session
+      one : (decision_of (kind_of n.plain)).tells_close n.instance (part n.instance cells) n.name session ≡ (without_session n.name session n.plain).1
+      one = (built_plain (kind_of n.plain) b.0).tells_close n.instance (part n.instance cells) n.plain refl (part_rises n.instance cells shows.sorted) (part_shows cells n h.0) n.name session
 
-pub decides_as_model : KindsArePlain → DecidesAsModel
-decides_as_model all = record {
-  resolves = λ s cells name op session shows built of_built. resolves all s cells shows built name op session of_built;
-  tells = λ s cells name op session effect reply names told shows built e. catalog_tells_nothing cells effect (s.last + 1) ∙ sym (told_nothing all s cells shows built name op session) ∙ ap told_outcome e;
-  looks = λ s cells name op looking shows built. looks all s cells shows built name op looking;
-  tells_close = λ s cells session shows built. catalog_closes_silently cells session ∙ sym (closes all s cells shows built session s.names built shows.shown);
+  closes_same : (session : ℕ) → catalog_decision.tells_close cells session ≡ told_close s session
+  closes_same session = ap (flat_map (λ (n : ℕ × (List ℕ × Option Kind)). closes_kind cells n.0 n.1.0 n.1.1 session)) (names_are cells s shows) ∙ closes session s.names built shows.shown
+
+pub decides_as_model : DecidesAsModel
+decides_as_model = record {
+  resolves = λ s cells name op session shows built of_built. resolves s cells shows built name op session of_built;
+  tells = λ s cells name op session effect reply names told shows built e. tells_same s cells shows built effect (s.last + 1) ∙ tells_shown cells s shows name op session effect reply names told e;
+  looks = λ s cells name op looking shows built. looks s cells shows built name op looking;
+  tells_close = λ s cells session shows built. closes_same s cells shows built session;
 }

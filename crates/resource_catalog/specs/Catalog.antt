@@ -1,7 +1,7 @@
 -- What a catalog decides, shows and tells, as functions of its cells. No kind is named here.
-use Rattle.std.specs.Prelude.{ℕ, Bool, true, false, cond, ◌==◌, nat_le, List, [], ◌∷◌, Option, Some, None, Result, Err, count_by}
+use Rattle.std.specs.Prelude.{ℕ, Bool, true, false, cond, ◌==◌, nat_le, List, [], Option, Some, None, Result, Err, count_by}
 use Rattle.std.specs.List.{flat_map}
-use Rattle.std.specs.FinMap.Entries.{put, find, where_key}
+use Rattle.std.specs.FinMap.Entries.{find, where_key}
 use Rattle.std.specs.Ordering.{nat_cmp}
 use Rattle.host_types.specs.Cells.{Place, Name_at, Cell_at, Held, Cells, place_cmp, at}
 use Rattle.host_types.specs.Decision.{Choice, Decides, Declines, MachineDecision}
@@ -9,13 +9,15 @@ use Rattle.host_types.specs.declared.entry.Kind.{Kind}
 use Rattle.host_types.specs.declared.entry.Op.{Op}
 use Rattle.host_types.specs.declared.entry.Op.TheVariants.{Create, Delete}
 use Rattle.host_types.specs.declared.entry.Effect.{Effect}
-use Rattle.host_types.specs.declared.entry.Effect.TheVariants.{Nothing, Create as Creates, Delete as Deletes, Put, Drop, Tell}
+use Rattle.host_types.specs.declared.entry.Effect.TheVariants.{Nothing, Create as Creates, Delete as Deletes}
 use Rattle.host_types.specs.declared.entry.Event.{Event}
 use Rattle.host_types.specs.declared.entry.Reply.{Reply}
 use Rattle.host_types.specs.declared.entry.Reply.TheVariants.{None as No_reply, Index}
 use Rattle.host_types.specs.declared.entry.Refusal.{Refusal}
 use Rattle.host_types.specs.declared.entry.Refusal.TheVariants.{NoName, Kind as Other_kind, Names}
 use Rattle.log_model.specs.Commands.{name_limit, kind_number}
+use Rattle.log_model.specs.Reading.{gather}
+use Rattle.log_model.specs.Telling.{named_pick, effect_instance}
 use Rattle.resource_catalog.specs.Kinds.{is_built, decision_of}
 
 -- a place of this instance
@@ -65,20 +67,8 @@ look_at cells (Some held) op = look_kind cells held.index held.kind op
 -- ---- events
 
 -- the names by their instances, rising
-abbrev pub with_instance : Place × Held → List (ℕ × (List ℕ × Option Kind)) → List (ℕ × (List ℕ × Option Kind))
-with_instance (Name_at name, held) rest = put nat_cmp held.index (name, held.kind) rest
-with_instance _ rest = rest
-
 abbrev pub instances : Cells → List (ℕ × (List ℕ × Option Kind))
-instances [] = []
-instances (e ∷ cells) = with_instance e (instances cells)
-
--- the instance that an effect is on, where it may make events
-abbrev pub instance_of : Effect → Option ℕ
-instance_of (Put m cell content owner) = Some m
-instance_of (Drop m cell) = Some m
-instance_of (Tell m word) = Some m
-instance_of _ = None
+instances cells = gather nat_cmp named_pick cells
 
 abbrev pub tells_kind : Cells → ℕ → List ℕ → Option Kind → Effect → ℕ → List (ℕ × Event)
 tells_kind cells m name None effect index = []
@@ -100,6 +90,6 @@ abbrev pub catalog_decision : MachineDecision
 catalog_decision = record {
   resolve = λ cells name op session index. choice_at cells name (at cells (Name_at name)) op session index;
   look = λ cells name op. look_at cells (at cells (Name_at name)) op;
-  tells = λ cells effect index. tells_on cells (instance_of effect) effect index;
+  tells = λ cells effect index. tells_on cells (effect_instance effect) effect index;
   tells_close = λ cells session. flat_map (λ n. closes_kind cells n.0 n.1.0 n.1.1 session) (instances cells);
 }

@@ -19,7 +19,7 @@ use Rattle.host_types.specs.declared.entry.Refusal.TheVariants.{Names as Too_man
 use Rattle.log_model.specs.Commands.{name_limit, kind_number}
 use Rattle.log_model.specs.LawfulRows.{EffectSuits, suits_agree, found_owner, found_place}
 use Rattle.log_model.proofs.Lookups.{any_from_found}
-use Rattle.resource_catalog.specs.Kinds.{is_built, decision_of, kind_lawful, kind_owner}
+use Rattle.resource_catalog.specs.Kinds.{is_built, decision_of, decision_lawful, decision_owner}
 use Rattle.resource_catalog.specs.Catalog.{is_place_of, part, names_in, choice_new, choice_there, choice_kind, choice_at, catalog_decision}
 
 unsigned : (n : ℕ) → IsIndex n → IsUnsigned n
@@ -131,7 +131,7 @@ new_lawful cells name op session index effect reply key here absent decides = ab
 rows_lawful : (cells : Cells) (name : List ℕ) (held : Held) (kind : Kind) (op : Op) (session index : ℕ) (effect : Effect) (reply : Reply) → IsIndex held.index → IsAsked cells op session index → at cells (Name_at name) ≡ Some held → held.kind ≡ Some kind
     → (decision_of kind).resolve held.index (part held.index cells) op session index ≡ Decides effect reply → IsLawfulAt cells session index effect reply
 rows_lawful cells name held kind op session index effect reply here asked found is decides =
-    let lawful = kind_lawful kind held.index (part held.index cells) op session index effect reply here (asked_part held.index cells op session index asked) decides in
+    let lawful = decision_lawful kind held.index (part held.index cells) op session index effect reply here (asked_part held.index cells op session index asked) decides in
     record {
       effect_in_range = lawful.effect_in_range;
       reply_in_range = lawful.reply_in_range;
@@ -202,7 +202,7 @@ catalog_suits cells name op session index effect reply decides = go (at cells (N
         on true e = moved_suits index session Nothing effect (Index m) reply e tt
         on false e = absurd (cc)
     there m kind Delete e = moved_suits index session (Deletes name m) effect No_reply reply e tt
-    there m kind op e = of_resource index session effect (kind_owner kind m (part m cells) op session index effect reply e)
+    there m kind op e = of_resource index session effect (decision_owner kind m (part m cells) op session index effect reply e)
 
     known : (m : ℕ) (k : Option Kind) → choice_kind cells name m k op session index ≡ Decides effect reply → MachineSuits index session effect
     known m None e = absurd (cc)

@@ -6,7 +6,8 @@ ghost use Rattle.std.specs.Ordering.{nat_cmp};
 ghost use Rattle.machine.specs.Answers.{Resolves};
 ghost use Rattle.machine.specs.Listing.{listed};
 ghost use Rattle.log_model.specs.Commands.{kind_number};
-ghost use Rattle.resource_catalog.specs.Catalog.{names_in, choice_new, choice_there, instance_of};
+ghost use Rattle.log_model.specs.Telling.{effect_instance};
+ghost use Rattle.resource_catalog.specs.Catalog.{names_in, choice_new, choice_there};
 ghost use Rattle.host_types.specs.Cells.{Cells, text_cmp, places_of, is_in_instance};
 ghost use Rattle.host_types.specs.declared.entry.Effect.TheVariants.{Create, Delete};
 ghost use Rattle.commit_lending.specs.Lent.{tokens, one_of};
@@ -296,7 +297,7 @@ fn is_same(one: Kind, other: Kind) -> bool
 
 // The instance on which an effect may make events.
 fn instance_of(effect: &Effect) -> Option<Index>
-    ensures { result ≡ instance_of effect.now }
+    ensures { result ≡ effect_instance effect.now }
 {
     match effect {
         Effect::Put { instance, .. } => Some(*instance),

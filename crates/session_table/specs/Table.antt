@@ -90,10 +90,6 @@ reply_in seq (Some x) = option_map (λ r. r.reply) (reply_kept seq x)
 abbrev pub alive_at : ℕ → ℕ → ℕ → Session → Session
 alive_at time seq event x = record (kept_alive time seq event x) { acked_event = max x.acked_event event }
 
--- the last sequence is at least this one
-abbrev pub noted : ℕ → Session → Session
-noted seq x = record x { seq = max x.seq seq }
-
 -- one batch more, unless it was acknowledged, which no log brings about
 abbrev pub with_batch : ℕ → List Event → Session → Session
 with_batch index events x = record x { batches = pushed x.acked_event index events x.batches }

@@ -9,7 +9,8 @@ ghost use Rattle.event_batches.specs.Rising.{AreBelow};
 ghost use Rattle.session_table.specs.Kept.{session_indexes, batch_indexes};
 ghost use Rattle.session_table.specs.Deadlines.{deadline};
 ghost use Rattle.session_table.specs.Replies.{reply_indexes};
-ghost use Rattle.session_table.specs.Table.{view_of, alive_at, noted, with_batch};
+ghost use Rattle.log_model.specs.Replay.{noted};
+ghost use Rattle.session_table.specs.Table.{view_of, alive_at, with_batch};
 
 use crate::replies::Replies;
 use crate::view::SessionView;

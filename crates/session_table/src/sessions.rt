@@ -12,7 +12,8 @@ ghost use Rattle.log_model.specs.Quiet.{kept_indexes, greatest_below};
 ghost use Rattle.log_model.specs.Step.{changed, new_session, with_reply};
 ghost use Rattle.event_batches.specs.Kept.{as_batch};
 ghost use Rattle.event_batches.specs.Rising.{AreBelow};
-ghost use Rattle.session_table.specs.Table.{Beside, as_state, session_at, IsOpen, ids, confirmed_of, reply_room, batch_room, KeepsRoom, IsSame, view_at, reply_in, alive_at, noted, with_batch, without_id, beside_changed, beside_alive, beside_confirmed};
+ghost use Rattle.log_model.specs.Replay.{noted};
+ghost use Rattle.session_table.specs.Table.{Beside, as_state, session_at, IsOpen, ids, confirmed_of, reply_room, batch_room, KeepsRoom, IsSame, view_at, reply_in, alive_at, with_batch, without_id, beside_changed, beside_alive, beside_confirmed};
 ghost use Rattle.session_table.specs.Asked.{NewerReply, NewerBatch, batch_at, batch_is_kept, confirms};
 ghost use Rattle.session_table.specs.Places.{table_cells};
 
