@@ -17,16 +17,16 @@ use Rattle.host_types.specs.declared.entry.Refusal.{Refusal}
 use Rattle.host_types.specs.declared.entry.Refusal.TheVariants.{GenEnd}
 use Rattle.segment_files.specs.Folder.{folder, Stands}
 use Rattle.segment_set.specs.Fits.{IsEmptyWhereNone}
-use Rattle.log_model.specs.Admission.{Item, Offered, Expired, Admission, Admitted, Repeats, Refused, admits, first_refusal, refused_if, Expiry, Expires, Nobody, Not_now, expires}
-use Rattle.log_model.specs.Fitting.{ItemFits}
-use Rattle.log_model.specs.Hosted.{Hosted, hosted_admits, hosted_entry, hosted_expires, hosted_folded, hosted_told}
-use Rattle.log_model.specs.Layout.{Layout, alone, needs_file, with_entry}
-use Rattle.log_model.specs.Machines.{LogsAreSound}
-use Rattle.log_model.specs.Sound.{IsSessionSound}
-use Rattle.log_model.specs.Plain.{Session}
-use Rattle.log_model.specs.Replay.{pushed, replay_batches, replay_entry}
-use Rattle.log_model.specs.Step.{events_of, folded}
-use Rattle.log_model.specs.Stored.{entry_of, is_admission, is_admitted, is_expiry_of}
+use Rattle.log_model.specs.plain.Admission.{Item, Offered, Expired, Admission, Admitted, Repeats, Refused, admits, first_refusal, refused_if, Expiry, Expires, Nobody, Not_now, expires}
+use Rattle.log_model.specs.plain.Fitting.{ItemFits}
+use Rattle.log_model.specs.hosted.Hosted.{Hosted, hosted_admits, hosted_entry, hosted_expires, hosted_folded, hosted_told}
+use Rattle.log_model.specs.cleaning.Layout.{Layout, alone, needs_file, with_entry}
+use Rattle.log_model.specs.hosted.Machines.{LogsAreSound}
+use Rattle.log_model.specs.hosted.Sound.{IsSessionSound}
+use Rattle.log_model.specs.plain.Plain.{Session}
+use Rattle.log_model.specs.replay.Replay.{pushed, replay_batches, replay_entry}
+use Rattle.log_model.specs.plain.Step.{events_of, folded}
+use Rattle.log_model.specs.plain.Stored.{entry_of, is_admission, is_admitted, is_expiry_of}
 use Rattle.host_core.specs.Seen.{hosted}
 use Rattle.host_recovery.specs.Lying.{LiesAlone}
 use Rattle.host_recovery.specs.Seen.{Seen}

@@ -5,11 +5,11 @@ use Rattle.host_types.specs.declared.entry.Ask.TheVariants.{Tick}
 use Rattle.host_types.specs.declared.entry.Kind.TheVariants.{Value}
 use Rattle.host_types.specs.declared.entry.Refusal.TheVariants.{Ack, Forgotten, Gap, Kind, NoSession, Range}
 use Rattle.host_types.specs.declared.entry.Reply.TheVariants.{None as No_reply, Index, Number, Text, Truth}
-use Rattle.log_model.specs.Admission.{Item, Offered}
+use Rattle.log_model.specs.plain.Admission.{Item, Offered}
 use Rattle.script_text.specs.declared.printed.Printed.{Printed}
 use Rattle.script_text.specs.declared.printed.Printed.TheVariants.{Opened, Session, Done, Expired, Replied, Repeat, Answer as Answers, Quiet, Refused}
 use Rattle.script_text.specs.Printing.{printed_text}
-use Rattle.log_model.specs.Layout.{no_files, alone}
+use Rattle.log_model.specs.cleaning.Layout.{no_files, alone}
 use Rattle.script_text.specs.Reading.{line_read}
 use Rattle.copycat_tool.specs.Script.{lines, command}
 use Rattle.copycat_tool.specs.Report.{Run, Answer, full, report, last_line, status_of, after}

@@ -4,8 +4,8 @@ use Rattle.std.proofs.lemmas.List.{append-nil}
 use Rattle.disk_model.specs.View.{View}
 use Rattle.host_types.specs.declared.entry.Offer.{Offer}
 use Rattle.host_types.specs.declared.entry.Refusal.{Refusal}
-use Rattle.log_model.specs.Admission.{Expired, Expiry, Expires, Nobody, Not_now, expires}
-use Rattle.log_model.specs.Step.{folded}
+use Rattle.log_model.specs.plain.Admission.{Expired, Expiry, Expires, Nobody, Not_now, expires}
+use Rattle.log_model.specs.plain.Step.{folded}
 use Rattle.host_recovery.specs.Seen.{Seen}
 use Rattle.resource_catalog.specs.Parts.{Parts}
 use Rattle.script_text.specs.declared.printed.Printed.TheVariants as prints

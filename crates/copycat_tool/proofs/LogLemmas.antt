@@ -6,14 +6,14 @@ use Rattle.std.specs.List.{AllByRecursion, filter, find}
 use Rattle.host_types.specs.Limits.{last_limit}
 use Rattle.host_types.specs.declared.entry.Event.{Event}
 use Rattle.host_types.specs.declared.entry.Refusal.TheVariants.{Time, LogEnd}
-use Rattle.log_model.specs.Plain.{Session, State, nothing_yet}
-use Rattle.log_model.specs.Admission.{Item, Expired, Expiry, Expires, Nobody, Not_now, Admission, Admitted, Repeats, Refused, due_in, expires, expires_due, is_due}
-use Rattle.log_model.specs.Fitting.{ItemFits}
-use Rattle.log_model.specs.Sound.{IsSessionSound}
-use Rattle.log_model.specs.Step.{step, fold_from, folded, with_batches, told_close}
-use Rattle.log_model.specs.Stored.{is_admitted, is_log_from}
+use Rattle.log_model.specs.plain.Plain.{Session, State, nothing_yet}
+use Rattle.log_model.specs.plain.Admission.{Item, Expired, Expiry, Expires, Nobody, Not_now, Admission, Admitted, Repeats, Refused, due_in, expires, expires_due, is_due}
+use Rattle.log_model.specs.plain.Fitting.{ItemFits}
+use Rattle.log_model.specs.hosted.Sound.{IsSessionSound}
+use Rattle.log_model.specs.plain.Step.{step, fold_from, folded, with_batches, told_close}
+use Rattle.log_model.specs.plain.Stored.{is_admitted, is_log_from}
 use Rattle.resource_catalog.specs.PlainNames.{IsItemOfBuilt}
-use Rattle.log_model.specs.Layout.{Layout}
+use Rattle.log_model.specs.cleaning.Layout.{Layout}
 use Rattle.copycat_tool.specs.Logs.{IsLog}
 use Rattle.copycat_tool.specs.Report.{admits_file, expiry_in, if_filed}
 

@@ -2,7 +2,7 @@
 use Rattle.std.proofs.Common.{◌≡◌, ℕ, ◌≤◌, List, [], ◌∷◌, ◌++◌, length, refl, ap, sym, ◌∙◌, subst, arith, append_assoc, length-append}
 use Rattle.std.proofs.lemmas.List.{append-nil, take-append-le, take_all}
 use Rattle.disk_model.specs.Image.{Image}
-use Rattle.log_model.specs.Admission.{Item}
+use Rattle.log_model.specs.plain.Admission.{Item}
 use Rattle.copycat_tool.specs.Logs.{StandsFor}
 use Rattle.copycat_tool.specs.Report.{Run, Answer, Change, Nothing, Stores, Reopens, changed, items, items_of, printed, print_line, after}
 use Rattle.copycat_tool.specs.Runs.{HasPrefix}

@@ -13,7 +13,7 @@ use Rattle.segment_set.specs.declared.opening.OpenError.{OpenError}
 use Rattle.segment_set.specs.declared.opening.OpenError.TheVariants.{Damaged as Damage, NoMemory}
 use Rattle.segment_set.proofs.Images.{nothing, only_one}
 use Rattle.segment_set.proofs.Faultless.{no_fault}
-use Rattle.log_model.specs.Admission.{Item}
+use Rattle.log_model.specs.plain.Admission.{Item}
 use Rattle.host_recovery.specs.Opening.{HasPrefix as HostHasPrefix, IsInOrder as HostIsInOrder}
 use Rattle.resource_catalog.specs.Catalog.{catalog_decision}
 use Rattle.resource_catalog.specs.PlainNames.{LogsAreAsModel}

@@ -5,8 +5,8 @@ use Rattle.std.proofs.Math.Seq.{take-append-add, drop-append-add}
 use Rattle.disk_model.specs.Image.{Image}
 use Rattle.disk_model.specs.View.{View, MayLeave, LeavesOnly}
 use Rattle.disk_model.proofs.Moments.{started, goes_further, weaker}
-use Rattle.log_model.specs.Admission.{Item}
-use Rattle.log_model.specs.Layout.{alone}
+use Rattle.log_model.specs.plain.Admission.{Item}
+use Rattle.log_model.specs.cleaning.Layout.{alone}
 use Rattle.host_recovery.specs.Lying.{LiesAlone}
 use Rattle.copycat_tool.specs.Script.{has_feed}
 use Rattle.copycat_tool.specs.Report.{Run, Answer, Report, Cut, report, in_front, after, items, printed}

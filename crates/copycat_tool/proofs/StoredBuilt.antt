@@ -14,10 +14,10 @@ use Rattle.host_types.specs.declared.entry.Op.{Op}
 use Rattle.host_types.specs.declared.entry.Op.TheVariants.{Create, Delete}
 use Rattle.host_types.specs.declared.entry.Refusal.TheVariants.{Kind as Other_kind, Names}
 use Rattle.host_types.specs.declared.entry.Reply.TheVariants.{Index}
-use Rattle.log_model.specs.Commands.{name_limit, kind_number}
-use Rattle.log_model.specs.KindEffects.{has_cell, stores}
-use Rattle.log_model.specs.Reading.{kind_decision}
-use Rattle.log_model.proofs.RowStores.{kind_stores}
+use Rattle.log_model.specs.plain.Commands.{name_limit, kind_number}
+use Rattle.log_model.specs.kinds.KindEffects.{has_cell, stores}
+use Rattle.log_model.specs.kinds.Reading.{kind_decision}
+use Rattle.log_model.proofs.kinds.RowStores.{kind_stores}
 use Rattle.segment_files.specs.Parse.{is_built_effect, is_built_cell, is_built_content, is_built_kind}
 use Rattle.resource_catalog.specs.Kinds.{is_built, unbuilt, decision_of}
 use Rattle.resource_catalog.specs.Catalog.{part, names_in, choice_new, choice_there, choice_kind, choice_at, catalog_decision}

@@ -3,8 +3,8 @@ use Rattle.std.proofs.Common.{◌≡◌, inl, inr, ℕ, ◌≤◌, ◌<◌, List
 use Rattle.std.proofs.lemmas.List.{append-nil, take_all}
 use Rattle.disk_model.specs.View.{View, LeavesOnly}
 use Rattle.disk_model.proofs.Moments.{started, goes_further, weaker, has_now}
-use Rattle.log_model.specs.Admission.{Item}
-use Rattle.log_model.specs.Layout.{alone}
+use Rattle.log_model.specs.plain.Admission.{Item}
+use Rattle.log_model.specs.cleaning.Layout.{alone}
 use Rattle.host_recovery.specs.Lying.{LiesAlone}
 use Rattle.host_recovery.specs.Seen.{Seen}
 use Rattle.resource_catalog.specs.Parts.{Parts}

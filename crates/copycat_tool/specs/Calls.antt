@@ -5,7 +5,7 @@ use Rattle.host_types.specs.declared.entry.Refusal.{Refusal}
 use Rattle.script_text.specs.declared.printed.Printed.{Printed}
 use Rattle.script_text.specs.declared.printed.Printed.TheVariants as prints
 use Rattle.script_text.specs.Printing.{printed_text}
-use Rattle.log_model.specs.Admission.{Expired, Expiry, Expires, Nobody, Not_now}
+use Rattle.log_model.specs.plain.Admission.{Expired, Expiry, Expires, Nobody, Not_now}
 use Rattle.host_recovery.specs.Seen.{Seen}
 use Rattle.host_recovery.specs.declared.answers.Answer.{Answer as HostAnswer}
 use Rattle.host_recovery.specs.declared.answers.Answer.TheVariants as answers

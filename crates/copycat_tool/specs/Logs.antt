@@ -3,9 +3,9 @@ use Rattle.std.specs.Prelude.{ℕ, List, IsTrue}
 use Rattle.std.specs.List.{AllByRecursion}
 use Rattle.disk_model.specs.Image.{Image}
 use Rattle.segment_files.specs.Folder.{folder, Stands}
-use Rattle.log_model.specs.Admission.{Item}
-use Rattle.log_model.specs.Fitting.{ItemsFit}
-use Rattle.log_model.specs.Stored.{stored, is_log}
+use Rattle.log_model.specs.plain.Admission.{Item}
+use Rattle.log_model.specs.plain.Fitting.{ItemsFit}
+use Rattle.log_model.specs.plain.Stored.{stored, is_log}
 use Rattle.resource_catalog.specs.PlainNames.{IsItemOfBuilt}
 
 -- A log that the program may have taken: each item was admitted where it stands, is as the program's types have it, and creates

@@ -7,7 +7,7 @@ use Rattle.disk_model.specs.View.{View, LeavesOnly}
 use Rattle.segment_files.specs.Folder.{folder, IsFault}
 use Rattle.segment_set.specs.declared.opening.OpenError.{OpenError}
 use Rattle.segment_set.specs.declared.opening.OpenError.TheVariants.{Disk, Damaged, NoMemory}
-use Rattle.log_model.specs.Admission.{Item}
+use Rattle.log_model.specs.plain.Admission.{Item}
 use Rattle.host_recovery.specs.Lying.{Lies}
 use Rattle.copycat_tool.specs.Report.{Run}
 use Rattle.copycat_tool.specs.Runs.{Closes, Files, HasPrefix, IsInOrder, RanSo}

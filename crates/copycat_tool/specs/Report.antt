@@ -12,12 +12,12 @@ use Rattle.host_types.specs.declared.entry.Reply.{Reply}
 use Rattle.script_text.specs.declared.printed.Printed.{Printed}
 use Rattle.script_text.specs.declared.printed.Printed.TheVariants as prints
 use Rattle.script_text.specs.Printing.{printed_text}
-use Rattle.log_model.specs.Admission.{Item, Offered, Expired, Admission, Admitted, Repeats, Refused, Expiry, Expires, Nobody, Not_now, admits, expires, first_refusal, refused_if}
-use Rattle.log_model.specs.Commands.{plain_look}
-use Rattle.log_model.specs.Layout.{Layout, alone, needs_file, with_entry}
-use Rattle.log_model.specs.Quiet.{quiet}
-use Rattle.log_model.specs.Step.{folded}
-use Rattle.log_model.specs.Stored.{entry_of}
+use Rattle.log_model.specs.plain.Admission.{Item, Offered, Expired, Admission, Admitted, Repeats, Refused, Expiry, Expires, Nobody, Not_now, admits, expires, first_refusal, refused_if}
+use Rattle.log_model.specs.plain.Commands.{plain_look}
+use Rattle.log_model.specs.cleaning.Layout.{Layout, alone, needs_file, with_entry}
+use Rattle.log_model.specs.plain.Quiet.{quiet}
+use Rattle.log_model.specs.plain.Step.{folded}
+use Rattle.log_model.specs.plain.Stored.{entry_of}
 use Rattle.copycat_tool.specs.declared.ending.Ending.{Ending}
 use Rattle.copycat_tool.specs.declared.ending.Ending.TheVariants.{Done, Fault, TooLong, ReadFault, WriteFault, DiskFault, NoMemory, Damaged}
 use Rattle.copycat_tool.specs.declared.lines.Command.{Command}

@@ -3,8 +3,8 @@ use Rattle.std.specs.Prelude.{◌≡◌, ◌<◌, ◌≤◌, ◌⊎◌, ℕ, ◌
 use Rattle.disk_model.specs.Image.{Image}
 use Rattle.disk_model.specs.View.{View, MayLeave, LeavesOnly}
 use Rattle.segment_set.specs.Fits.{IsEmptyWhereNone}
-use Rattle.log_model.specs.Admission.{Item}
-use Rattle.log_model.specs.Layout.{alone}
+use Rattle.log_model.specs.plain.Admission.{Item}
+use Rattle.log_model.specs.cleaning.Layout.{alone}
 use Rattle.host_recovery.specs.Lying.{LiesAlone}
 use Rattle.copycat_tool.specs.declared.ending.Ending.{Ending}
 use Rattle.copycat_tool.specs.declared.ending.Ending.TheVariants.{Done, Fault, TooLong, ReadFault, WriteFault, DiskFault, NoMemory, Damaged}

@@ -3,7 +3,7 @@ use Rattle.std.specs.Prelude.{◌≡◌, ◌⊎◌, length, is_none}
 use Rattle.disk_model.specs.Image.{Image}
 use Rattle.disk_model.specs.View.{View, IsSound, LeavesOnly, MayLeave}
 use Rattle.segment_set.specs.Fits.{IsEmptyWhereNone}
-use Rattle.log_model.specs.Layout.{alone, needs_file}
+use Rattle.log_model.specs.cleaning.Layout.{alone, needs_file}
 use Rattle.host_core.specs.Seen.{hosted}
 use Rattle.host_recovery.specs.Lying.{LiesAlone}
 use Rattle.host_recovery.specs.Seen.{Seen}

@@ -2,7 +2,7 @@
 use Rattle.std.specs.Prelude.{◌≡◌, ℕ, List, ◌++◌, Option, Some, None}
 use Rattle.disk_model.specs.View.{View}
 use Rattle.host_types.specs.declared.entry.Refusal.{Refusal}
-use Rattle.log_model.specs.Admission.{Expiry, Nobody, Not_now}
+use Rattle.log_model.specs.plain.Admission.{Expiry, Nobody, Not_now}
 use Rattle.host_recovery.specs.Seen.{Seen}
 use Rattle.resource_catalog.specs.Parts.{Parts}
 use Rattle.copycat_tool.specs.declared.ending.Ending.{Ending}

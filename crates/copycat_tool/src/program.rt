@@ -5,7 +5,7 @@ ghost use Rattle.disk_model.specs.declared.file_id.FileId.{FileId};
 ghost use Rattle.disk_model.specs.View.{LeavesAt, MayHold};
 ghost use Rattle.segment_files.specs.Folder.{folder, IsFault};
 ghost use Rattle.segment_set.specs.Fits.{IsEmptyWhereNone, KeepsNames};
-ghost use Rattle.log_model.specs.Admission.{Item};
+ghost use Rattle.log_model.specs.plain.Admission.{Item};
 ghost use Rattle.copycat_tool.specs.Words.{asks, asked_of};
 ghost use Rattle.copycat_tool.specs.Runs.{Closes, IsInOrder};
 ghost use Rattle.copycat_tool.specs.Programs.{IsStatus, RunsInOrder, TellsDamage, TellsUnopened, usage_line};

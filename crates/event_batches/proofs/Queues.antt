@@ -4,11 +4,11 @@ use Rattle.std.proofs.lemmas.Bool.{cases_lt, false_from_ne_true}
 use Rattle.std.specs.List.{filter, find, slice_get}
 use Rattle.std.specs.Option.{option_map, option_map_or, option_copied}
 use Rattle.host_types.specs.declared.entry.Event.{Event}
-use Rattle.log_model.specs.Plain.{Kept_batch}
-use Rattle.log_model.specs.Batches as model
+use Rattle.log_model.specs.plain.Plain.{Kept_batch}
+use Rattle.log_model.specs.serving.Batches as model
 use Rattle.event_batches.specs.Kept.{as_batch, as_kept, indexes, pushed, served, has_batch, can_confirm}
 use Rattle.event_batches.specs.Rising.{Rises, AreBelow, last_of}
-use Rattle.log_model.specs.Serving.{chained}
+use Rattle.log_model.specs.serving.Serving.{chained}
 use Rattle.event_batches.specs.Dropping.{lent_has, linked_to}
 use Rattle.event_batches.specs.declared.batch.Batch.{Batch}
 use Rattle.event_batches.proofs.RisingLists.{over, over_first, over_rest, any_from, find_through, map_twice, any_through, filter_through, map_push, found_passes, below_append, rises_over}

@@ -3,7 +3,7 @@ use Rattle.std.proofs.Common.{◌≡◌, ℕ, ◌-◌, ◌<◌, ◌≤◌, ◌==
 use Rattle.std.proofs.lemmas.Bool.{le-ltb, le-leb, lt-leb, cases_lt, false_from_ne_true}
 use Rattle.std.specs.List.{filter, find, list_any, slice_get}
 use Rattle.std.specs.Option.{option_map, option_map_or}
-use Rattle.log_model.specs.Quiet.{greatest_below}
+use Rattle.log_model.specs.plain.Quiet.{greatest_below}
 use Rattle.event_batches.specs.Rising.{Rises, AreBelow, last_of}
 
 -- ---- numbers that rise

@@ -3,7 +3,7 @@ use Rattle.std.specs.Prelude.{◌≡◌, ◌-◌, ◌≤◌, map}
 use Rattle.std.specs.VecDeque.{deque_len, deque_capacity}
 use Rattle.event_batches.specs.Kept.{Kept, as_batch, as_kept}
 use Rattle.event_batches.specs.Rising.{Rises}
-use Rattle.log_model.specs.Serving.{chained}
+use Rattle.log_model.specs.serving.Serving.{chained}
 use Rattle.event_batches.specs.declared.queue.Queue.TheInside.{Inside}
 
 abbrev pub shown : Inside → Kept

@@ -3,9 +3,9 @@ use Rattle.std.specs.Prelude.{ℕ, Bool, false, cond, nat_lt, ◌==◌, ◌||◌
 use Rattle.std.specs.List.{filter, find, list_any}
 use Rattle.std.specs.Option.{option_map_or}
 use Rattle.host_types.specs.declared.entry.Event.{Event}
-use Rattle.log_model.specs.Plain.{Kept_batch}
-use Rattle.log_model.specs.Batches as model
-use Rattle.log_model.specs.Serving.{chained}
+use Rattle.log_model.specs.plain.Plain.{Kept_batch}
+use Rattle.log_model.specs.serving.Batches as model
+use Rattle.log_model.specs.serving.Serving.{chained}
 use Rattle.event_batches.specs.declared.batch.Batch.{Batch}
 
 -- the acknowledged event and the one that was confirmed last, the kept batches by rising index, and for how many more there is

@@ -1,6 +1,6 @@
 -- What a client answers.
 use Rattle.std.specs.Prelude.{ℕ}
-use Rattle.log_model.specs.Batches as model
+use Rattle.log_model.specs.serving.Batches as model
 use Rattle.event_batches.specs.declared.client.Take.{Take}
 use Rattle.event_batches.specs.declared.client.Take.TheVariants.{Taken, Repeat, Missed}
 

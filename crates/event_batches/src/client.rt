@@ -1,6 +1,6 @@
 // The client's side: which batches it takes.
 ghost use Rattle.std.specs.Prelude.{◌≡◌};
-ghost use Rattle.log_model.specs.Batches.{take_batch, last_after};
+ghost use Rattle.log_model.specs.serving.Batches.{take_batch, last_after};
 ghost use Rattle.event_batches.specs.Kept.{as_batch};
 ghost use Rattle.event_batches.specs.Taking.{answered};
 

@@ -3,7 +3,7 @@ ghost use Rattle.std.specs.Prelude.{◌≡◌, ℕ, ◌+◌, ◌≤◌, max, con
 ghost use Rattle.std.specs.Option.{option_map, option_copied};
 ghost use Rattle.std.specs.List.{find, filter};
 ghost use Rattle.std.specs.Prelude.{nat_lt, nat_le};
-ghost use Rattle.log_model.specs.Quiet.{greatest_below};
+ghost use Rattle.log_model.specs.plain.Quiet.{greatest_below};
 ghost use Rattle.event_batches.specs.Kept.{as_batch, indexes, pushed, above, served, has_batch, can_confirm};
 ghost use Rattle.event_batches.specs.Rising.{AreBelow, Rises, last_of};
 ghost use Rattle.event_batches.specs.Dropping.{lent_has, linked_to};

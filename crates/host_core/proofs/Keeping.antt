@@ -17,23 +17,23 @@ use Rattle.host_types.specs.declared.entry.Refusal.TheVariants.{Time}
 use Rattle.host_core.specs.declared.deciding.Asked.{Asked}
 use Rattle.host_core.specs.declared.deciding.Decided.{Decided}
 use Rattle.host_core.specs.declared.deciding.DecideError.{DecideError}
-use Rattle.log_model.specs.Admission.{Offered, Admission, admits_asked, admits_more, due_in, is_due, first_refusal, refused_due, refused_if}
-use Rattle.log_model.specs.Stored.{body_of}
+use Rattle.log_model.specs.plain.Admission.{Offered, Admission, admits_asked, admits_more, due_in, is_due, first_refusal, refused_due, refused_if}
+use Rattle.log_model.specs.plain.Stored.{body_of}
 use Rattle.commit_lending.specs.Lent.{Lent, tokens, one_of}
-use Rattle.log_model.specs.Cells.{after}
-use Rattle.log_model.specs.Plain.{Kept_batch, Session}
-use Rattle.log_model.specs.Step.{changed, new_session, with_reply}
-use Rattle.log_model.specs.Hosted.{hosted_admits, hosted_command, hosted_entry, hosted_declined, hosted_told, machine_cells}
-use Rattle.log_model.specs.Parts.{machine_after, session_cells}
-use Rattle.log_model.specs.Replay.{noted, replay_alive, replay_batches, replay_reply, replay_sessions, replay_entry}
-use Rattle.log_model.specs.Sound.{IsSessionSound, IsSound}
-use Rattle.log_model.proofs.Free.{index_free}
-use Rattle.log_model.proofs.OfMachines.{admitted_in_range}
-use Rattle.log_model.specs.Stored.{is_admission}
+use Rattle.log_model.specs.cleaning.Cells.{after}
+use Rattle.log_model.specs.plain.Plain.{Kept_batch, Session}
+use Rattle.log_model.specs.plain.Step.{changed, new_session, with_reply}
+use Rattle.log_model.specs.hosted.Hosted.{hosted_admits, hosted_command, hosted_entry, hosted_declined, hosted_told, machine_cells}
+use Rattle.log_model.specs.hosted.Parts.{machine_after, session_cells}
+use Rattle.log_model.specs.replay.Replay.{noted, replay_alive, replay_batches, replay_reply, replay_sessions, replay_entry}
+use Rattle.log_model.specs.hosted.Sound.{IsSessionSound, IsSound}
+use Rattle.log_model.proofs.hosted.Free.{index_free}
+use Rattle.log_model.proofs.hosted.OfMachines.{admitted_in_range}
+use Rattle.log_model.specs.plain.Stored.{is_admission}
 use Rattle.host_core.specs.declared.deciding.Decided.TheVariants as decided
-use Rattle.log_model.proofs.Parts.{part_follows}
+use Rattle.log_model.proofs.hosted.Parts.{part_follows}
 use Rattle.log_model.proofs.Lookups.{T_from}
-use Rattle.log_model.proofs.Sounds.{entry_sound, each_append, each_filter, each_map}
+use Rattle.log_model.proofs.hosted.Sounds.{entry_sound, each_append, each_filter, each_map}
 use Rattle.session_table.specs.Table.{Table}
 use Rattle.session_table.specs.Places.{table_cells}
 use Rattle.host_core.specs.Entering.{Entered, Meets}

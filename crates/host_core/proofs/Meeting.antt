@@ -12,16 +12,16 @@ use Rattle.host_types.specs.Cells.{Register_at, marked, Cells, at, stands, place
 use Rattle.commit_lending.specs.Lent.{Lent, tokens, one_of}
 use Rattle.machine.specs.Release.{AreOut, CreatesAnew}
 use Rattle.event_batches.specs.Rising.{AreBelow}
-use Rattle.log_model.specs.Plain.{Kept_batch, Kept_reply, Session, session_in}
-use Rattle.log_model.specs.Hosted.{Hosted}
-use Rattle.log_model.specs.Parts.{machine_after, put_owner_stands}
-use Rattle.log_model.specs.Sound.{IsSessionSound, IsPast, IsFree, Rises}
-use Rattle.log_model.specs.Step.{changed, new_session, with_reply}
-use Rattle.log_model.specs.Replay.{noted, pushed, replay_alive, replay_batches, replay_reply}
-use Rattle.log_model.proofs.Admitted.{changed_same}
-use Rattle.log_model.proofs.Free.{index_free}
-use Rattle.log_model.specs.Cells.{after}
-use Rattle.log_model.proofs.Sounds.{each_weaker, each_found}
+use Rattle.log_model.specs.plain.Plain.{Kept_batch, Kept_reply, Session, session_in}
+use Rattle.log_model.specs.hosted.Hosted.{Hosted}
+use Rattle.log_model.specs.hosted.Parts.{machine_after, put_owner_stands}
+use Rattle.log_model.specs.hosted.Sound.{IsSessionSound, IsPast, IsFree, Rises}
+use Rattle.log_model.specs.plain.Step.{changed, new_session, with_reply}
+use Rattle.log_model.specs.replay.Replay.{noted, pushed, replay_alive, replay_batches, replay_reply}
+use Rattle.log_model.proofs.hosted.Admitted.{changed_same}
+use Rattle.log_model.proofs.hosted.Free.{index_free}
+use Rattle.log_model.specs.cleaning.Cells.{after}
+use Rattle.log_model.proofs.hosted.Sounds.{each_weaker, each_found}
 use Rattle.session_table.specs.declared.view.SessionView.{SessionView}
 use Rattle.session_table.specs.Asked.{NewerReply}
 use Rattle.session_table.specs.Table.{Beside, Table, ids, alive_at, beside_changed, confirmed_of, view_of, view_at, session_at}

@@ -10,13 +10,13 @@ use Rattle.host_types.specs.declared.entry.Body.{Body}
 use Rattle.host_types.specs.declared.entry.Body.TheVariants.{Register, Alive, Close, Tick, Command}
 use Rattle.host_types.specs.declared.entry.Entry.{Entry}
 use Rattle.host_types.specs.Cells.{Place, Name_at, Cell_at, Register_at, Alive_at, Held, place_cmp, Cells, at, put_all}
-use Rattle.log_model.specs.Cells.{puts, covers, is_covered, uncovered, fits, after}
-use Rattle.log_model.specs.Hosted.{is_machine_place, machine_cells}
-use Rattle.log_model.specs.Parts.{machine_after, session_cells}
+use Rattle.log_model.specs.cleaning.Cells.{puts, covers, is_covered, uncovered, fits, after}
+use Rattle.log_model.specs.hosted.Hosted.{is_machine_place, machine_cells}
+use Rattle.log_model.specs.hosted.Parts.{machine_after, session_cells}
 use Rattle.log_model.proofs.Places.{place_total, exact_places}
 use Rattle.log_model.proofs.Lookups.{T_from}
-use Rattle.log_model.proofs.Changes.{or_else, at-put_all, at-uncovered, sorted-after}
-use Rattle.log_model.proofs.Parts.{part_follows}
+use Rattle.log_model.proofs.cleaning.Changes.{or_else, at-put_all, at-uncovered, sorted-after}
+use Rattle.log_model.proofs.hosted.Parts.{part_follows}
 use Rattle.host_core.specs.Parts.{sessions_after}
 
 both : (a b : Bool) → T (a && b) → T a × T b

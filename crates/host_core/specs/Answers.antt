@@ -11,10 +11,10 @@ use Rattle.host_types.specs.Cells.{Cells}
 use Rattle.host_types.specs.Decision.{Choice, MachineDecision}
 use Rattle.machine.specs.declared.decision.Refuse.{Refuse}
 use Rattle.machine.specs.declared.decision.Refuse.TheVariants as refuses
-use Rattle.log_model.specs.Plain.{Session}
-use Rattle.log_model.specs.Admission.{Admission, Admitted, Repeats, Refused, admits_asked}
-use Rattle.log_model.specs.Stored.{body_of}
-use Rattle.log_model.specs.Hosted.{refused_choice, choice_body}
+use Rattle.log_model.specs.plain.Plain.{Session}
+use Rattle.log_model.specs.plain.Admission.{Admission, Admitted, Repeats, Refused, admits_asked}
+use Rattle.log_model.specs.plain.Stored.{body_of}
+use Rattle.log_model.specs.hosted.Hosted.{refused_choice, choice_body}
 use Rattle.host_core.specs.declared.deciding.Decided.{Decided}
 use Rattle.host_core.specs.declared.deciding.Decided.TheVariants as decided
 use Rattle.host_core.specs.declared.deciding.Asked.{Asked}

@@ -8,11 +8,11 @@ use Rattle.host_types.specs.declared.entry.Entry.{Entry}
 use Rattle.std.specs.List.{AllByRecursion, filter}
 use Rattle.host_types.specs.Cells.{Cells, places_of}
 use Rattle.commit_lending.specs.Lent.{Lent, tokens, one_of}
-use Rattle.log_model.specs.Plain.{Session, session_in}
-use Rattle.log_model.specs.Hosted.{machine_cells}
-use Rattle.log_model.specs.Parts.{machine_after, session_cells}
-use Rattle.log_model.specs.Replay.{replay_sessions}
-use Rattle.log_model.specs.Sound.{IsSound}
+use Rattle.log_model.specs.plain.Plain.{Session, session_in}
+use Rattle.log_model.specs.hosted.Hosted.{machine_cells}
+use Rattle.log_model.specs.hosted.Parts.{machine_after, session_cells}
+use Rattle.log_model.specs.replay.Replay.{replay_sessions}
+use Rattle.log_model.specs.hosted.Sound.{IsSound}
 use Rattle.event_batches.specs.Rising.{AreBelow}
 use Rattle.session_table.specs.Table.{Beside, Table, IsOpen, beside_alive, beside_changed, reply_room}
 use Rattle.session_table.specs.Places.{table_cells}

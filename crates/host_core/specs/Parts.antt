@@ -4,9 +4,9 @@ use Rattle.std.specs.FinMap.Entries.{is_sorted}
 use Rattle.host_types.specs.declared.entry.Body.TheVariants.{Tick, Command}
 use Rattle.host_types.specs.declared.entry.Entry.{Entry}
 use Rattle.host_types.specs.Cells.{place_cmp, Cells}
-use Rattle.log_model.specs.Cells.{after}
-use Rattle.log_model.specs.Hosted.{machine_cells}
-use Rattle.log_model.specs.Parts.{machine_after, session_cells}
+use Rattle.log_model.specs.cleaning.Cells.{after}
+use Rattle.log_model.specs.hosted.Hosted.{machine_cells}
+use Rattle.log_model.specs.hosted.Parts.{machine_after, session_cells}
 
 -- what the entry i makes of the places of sessions
 abbrev pub sessions_after : ℕ → Entry → Cells → Cells

@@ -7,12 +7,12 @@ use Rattle.host_types.specs.Cells.{Cells, places_of}
 use Rattle.host_types.specs.Decision.{MachineDecision}
 use Rattle.std.specs.List.{AllByRecursion}
 use Rattle.commit_lending.specs.Lent.{Lent, lent_code, tokens}
-use Rattle.log_model.specs.Plain.{Session}
+use Rattle.log_model.specs.plain.Plain.{Session}
 use Rattle.session_table.specs.Table.{Table}
 use Rattle.session_table.specs.Places.{table_cells}
-use Rattle.log_model.specs.Hosted.{Hosted, machine_cells}
-use Rattle.log_model.specs.Parts.{session_cells}
-use Rattle.log_model.specs.Sound.{IsSound}
+use Rattle.log_model.specs.hosted.Hosted.{Hosted, machine_cells}
+use Rattle.log_model.specs.hosted.Parts.{session_cells}
+use Rattle.log_model.specs.hosted.Sound.{IsSound}
 use Rattle.host_core.specs.Entering.{HasRoomFor}
 
 pub record Seen (M : Type 0) : Type 0 where

@@ -1,8 +1,8 @@
 // What is decided on an offer.
 ghost use Rattle.std.specs.Prelude.{◌≡◌, [], ◌∷◌, length, nat_le, true, false};
-ghost use Rattle.log_model.specs.Plain.{session_in};
-ghost use Rattle.log_model.specs.Admission.{Admission, Admitted, admits_alive, admits_more, admits_seq, first_refusal, of_session, refused_if, session_limit};
-ghost use Rattle.log_model.specs.Hosted.{choice_body, refused_choice};
+ghost use Rattle.log_model.specs.plain.Plain.{session_in};
+ghost use Rattle.log_model.specs.plain.Admission.{Admission, Admitted, admits_alive, admits_more, admits_seq, first_refusal, of_session, refused_if, session_limit};
+ghost use Rattle.log_model.specs.hosted.Hosted.{choice_body, refused_choice};
 ghost use Rattle.host_types.specs.declared.entry.Body.{Body as AnyBody};
 ghost use Rattle.host_core.specs.Answers.{AllowsSequence, Decides_as, Judges, asked_admission, asked_body, chosen, error_of};
 

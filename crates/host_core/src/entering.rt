@@ -3,11 +3,11 @@ ghost use Rattle.std.specs.Prelude.{◌≡◌, ℕ, Bool, ◌≤◌, ◌==◌, n
 ghost use Rattle.std.specs.List.{filter};
 ghost use Rattle.host_types.specs.Cells.{Cells, without_owner};
 ghost use Rattle.host_types.specs.declared.entry.Reply.{Reply as AnyReply};
-ghost use Rattle.log_model.specs.Cells.{after};
-ghost use Rattle.log_model.specs.Replay.{replay_alive, replay_reply};
-ghost use Rattle.log_model.specs.Sound.{Rises};
-ghost use Rattle.log_model.specs.Step.{changed};
-ghost use Rattle.log_model.specs.Parts.{machine_after};
+ghost use Rattle.log_model.specs.cleaning.Cells.{after};
+ghost use Rattle.log_model.specs.replay.Replay.{replay_alive, replay_reply};
+ghost use Rattle.log_model.specs.hosted.Sound.{Rises};
+ghost use Rattle.log_model.specs.plain.Step.{changed};
+ghost use Rattle.log_model.specs.hosted.Parts.{machine_after};
 ghost use Rattle.session_table.specs.Table.{IsOpen, IsSame, beside_alive, beside_changed, reply_room};
 ghost use Rattle.session_table.specs.Places.{table_cells};
 ghost use Rattle.host_core.specs.Entering.{AreKeptBefore, Entered, HasRoomFor, IsOut, Meets, has_owner};

@@ -3,10 +3,10 @@ ghost use Rattle.std.specs.Prelude.{◌≡◌, ℕ, ◌≤◌, ◌<◌, ◌+◌,
 ghost use Rattle.host_types.specs.Cells.{places_of};
 ghost use Rattle.host_types.specs.Ranges.{EntryFits, IsInRange, IsIndex};
 ghost use Rattle.commit_lending.specs.Lent.{tokens};
-ghost use Rattle.log_model.specs.Admission.{Offered, due_in};
-ghost use Rattle.log_model.specs.Hosted.{hosted_admits, hosted_entry, hosted_nothing, hosted_quiet, hosted_told, machine_cells};
-ghost use Rattle.log_model.specs.Replay.{replay_entry};
-ghost use Rattle.log_model.specs.Sound.{IsSound};
+ghost use Rattle.log_model.specs.plain.Admission.{Offered, due_in};
+ghost use Rattle.log_model.specs.hosted.Hosted.{hosted_admits, hosted_entry, hosted_nothing, hosted_quiet, hosted_told, machine_cells};
+ghost use Rattle.log_model.specs.replay.Replay.{replay_entry};
+ghost use Rattle.log_model.specs.hosted.Sound.{IsSound};
 ghost use Rattle.host_core.specs.Answers.{Decides_as, IsStorable};
 ghost use Rattle.session_table.specs.Table.{IsSame};
 ghost use Rattle.host_core.specs.Entering.{beside_after};

@@ -13,7 +13,7 @@ use Rattle.segment_set.specs.Growth.{grown, new_tail}
 use Rattle.segment_set.specs.Fits.{Fits, IsHeld, bare, log_of, parts_in, gained, first_id, frame_size, greatest_after}
 use Rattle.segment_set.proofs.AreLogs.{are_none, are_one}
 use Rattle.segment_set.proofs.Gaining.{whole_plain, list_at}
-use Rattle.log_model.specs.Layout.{Layout, with_entry}
+use Rattle.log_model.specs.cleaning.Layout.{Layout, with_entry}
 use Rattle.host_recovery.specs.Standing.{layout_in, log_in, part_layout}
 
 -- a part that is read whole and begins with the first entry is a log

@@ -24,14 +24,14 @@ use Rattle.segment_files.specs.Parse.{is_built, is_built_effect}
 use Rattle.segment_files.specs.Folder.{folder, Stands}
 use Rattle.segment_set.specs.declared.parts.Parts.{Parts}
 use Rattle.segment_set.specs.Fits.{Fits, IsHeld, StandsOrGains as FilesStandOrGain}
-use Rattle.log_model.specs.Admission.{Item, Expired, Expiry, Expires, Nobody, Not_now, Offered, due_in, expires_due, Admission, Admitted, Repeats, Refused, first_refusal}
-use Rattle.log_model.specs.Fitting.{ItemFits, ItemsFit}
-use Rattle.log_model.specs.Hosted.{Hosted, choice_body, hosted_choice, hosted_command, machine_cells, hosted_admits, hosted_expires, hosted_entry, hosted_folded, hosted_stored, hosted_told, is_hosted_admitted, is_hosted_log}
-use Rattle.log_model.specs.Replay.{replay_entry}
-use Rattle.log_model.specs.Sound.{IsSound}
-use Rattle.log_model.specs.Stored.{body_of, is_admission, is_expiry_of}
-use Rattle.log_model.proofs.HostedLogs.{grown}
-use Rattle.log_model.proofs.OfMachines.{admitted_in_range, logs_sound, step_is_replay}
+use Rattle.log_model.specs.plain.Admission.{Item, Expired, Expiry, Expires, Nobody, Not_now, Offered, due_in, expires_due, Admission, Admitted, Repeats, Refused, first_refusal}
+use Rattle.log_model.specs.plain.Fitting.{ItemFits, ItemsFit}
+use Rattle.log_model.specs.hosted.Hosted.{Hosted, choice_body, hosted_choice, hosted_command, machine_cells, hosted_admits, hosted_expires, hosted_entry, hosted_folded, hosted_stored, hosted_told, is_hosted_admitted, is_hosted_log}
+use Rattle.log_model.specs.replay.Replay.{replay_entry}
+use Rattle.log_model.specs.hosted.Sound.{IsSound}
+use Rattle.log_model.specs.plain.Stored.{body_of, is_admission, is_expiry_of}
+use Rattle.log_model.proofs.hosted.HostedLogs.{grown}
+use Rattle.log_model.proofs.hosted.OfMachines.{admitted_in_range, logs_sound, step_is_replay}
 use Rattle.host_core.specs.Seen.{hosted}
 use Rattle.host_recovery.specs.Seen.{Seen}
 use Rattle.host_recovery.specs.Standing.{StandsAt, StoresBuilt, StandsFor, StandsOrExpires, StandsOrGains, StandsOrTakes, log_in}

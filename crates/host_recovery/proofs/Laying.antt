@@ -13,7 +13,7 @@ use Rattle.segment_set.specs.Opening.{IsGreatestListed}
 use Rattle.segment_set.proofs.Images.{nothing, only_one, here}
 use Rattle.segment_set.proofs.Loading.{bytes_of_whole}
 use Rattle.segment_set.proofs.Gaining.{whole_plain, list_at}
-use Rattle.log_model.specs.Layout.{Layout, PartLayout, alone, greatest_of, needs_file}
+use Rattle.log_model.specs.cleaning.Layout.{Layout, PartLayout, alone, greatest_of, needs_file}
 use Rattle.host_recovery.specs.Lying.{IsGreatest, IsThere, Lies, LiesAlone}
 use Rattle.host_recovery.specs.Standing.{layout_in, part_layout}
 use Rattle.host_recovery.proofs.Openings.{one_choice}

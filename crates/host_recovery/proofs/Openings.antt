@@ -10,13 +10,13 @@ use Rattle.segment_files.specs.Folder.{Folder, folder, entries_of, AreOf, IsChoi
 use Rattle.segment_set.specs.Fits.{Fits, IsHeld, bare, log_of, parts_in}
 use Rattle.segment_set.proofs.Images.{nothing, only_one, here}
 use Rattle.segment_files.specs.Contents.{AreNumbered}
-use Rattle.log_model.specs.Admission.{Item}
-use Rattle.log_model.specs.Fitting.{ItemsFit}
-use Rattle.log_model.specs.Hosted.{Hosted, hosted_nothing, hosted_entry, hosted_step, hosted_told, hosted_folded, hosted_stored, hosted_stored_from, hosted_quiet, is_hosted_admitted, is_hosted_log_from}
-use Rattle.log_model.specs.Cleaning.{numbered}
-use Rattle.log_model.specs.Replay.{Telling, replay_entry, replay_from, replayed}
-use Rattle.log_model.proofs.Appends.{fresh}
-use Rattle.log_model.proofs.WholeFold.{gives_hosted_fold}
+use Rattle.log_model.specs.plain.Admission.{Item}
+use Rattle.log_model.specs.plain.Fitting.{ItemsFit}
+use Rattle.log_model.specs.hosted.Hosted.{Hosted, hosted_nothing, hosted_entry, hosted_step, hosted_told, hosted_folded, hosted_stored, hosted_stored_from, hosted_quiet, is_hosted_admitted, is_hosted_log_from}
+use Rattle.log_model.specs.cleaning.Cleaning.{numbered}
+use Rattle.log_model.specs.replay.Replay.{Telling, replay_entry, replay_from, replayed}
+use Rattle.log_model.proofs.cleaning.Appends.{fresh}
+use Rattle.log_model.proofs.replay.WholeFold.{gives_hosted_fold}
 use Rattle.host_types.specs.Cells.{Cells}
 use Rattle.host_core.specs.Seen.{hosted}
 use Rattle.host_recovery.specs.Seen.{Seen}

@@ -12,10 +12,10 @@ use Rattle.segment_set.specs.declared.parts.Tail.{Tail}
 use Rattle.segment_set.specs.declared.parts.Parts.{Parts}
 use Rattle.segment_set.specs.Fits.{Fits, IsHeld, IsInOrder as FilesAreInOrder, parts_in}
 use Rattle.segment_set.specs.Opening.{IsGreatestListed}
-use Rattle.log_model.specs.Admission.{Item}
-use Rattle.log_model.specs.Hosted.{hosted_stored, hosted_told}
-use Rattle.log_model.specs.Layout.{alone}
-use Rattle.log_model.specs.Replay.{replayed}
+use Rattle.log_model.specs.plain.Admission.{Item}
+use Rattle.log_model.specs.hosted.Hosted.{hosted_stored, hosted_told}
+use Rattle.log_model.specs.cleaning.Layout.{alone}
+use Rattle.log_model.specs.replay.Replay.{replayed}
 use Rattle.host_core.specs.Seen.{hosted}
 use Rattle.host_recovery.specs.Seen.{Seen}
 use Rattle.host_recovery.specs.Opening.{HasPrefix, IsInOrder}

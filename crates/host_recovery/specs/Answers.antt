@@ -10,7 +10,7 @@ use Rattle.host_types.specs.declared.entry.Reply.{Reply}
 use Rattle.disk_model.specs.declared.disk.DiskFault.{DiskFault}
 use Rattle.disk_model.specs.declared.disk.DiskFault.TheVariants as faults
 use Rattle.segment_set.specs.declared.parts.Parts.{Parts}
-use Rattle.log_model.specs.Admission.{Admission, Admitted, Repeats, Refused, Expiry, Expires, Nobody, Not_now, first_refusal, refused_if}
+use Rattle.log_model.specs.plain.Admission.{Admission, Admitted, Repeats, Refused, Expiry, Expires, Nobody, Not_now, first_refusal, refused_if}
 use Rattle.host_core.specs.Seen.{hosted}
 use Rattle.host_recovery.specs.declared.answers.Answer.{Answer}
 use Rattle.host_recovery.specs.declared.answers.Answer.TheVariants as answers

@@ -4,7 +4,7 @@ use Rattle.disk_model.specs.declared.file_id.FileId.{FileId}
 use Rattle.disk_model.specs.Image.{Image, place}
 use Rattle.segment_files.specs.Parse.{Part}
 use Rattle.segment_files.specs.Folder.{folder, IsChoice}
-use Rattle.log_model.specs.Layout.{PartLayout, Layout}
+use Rattle.log_model.specs.cleaning.Layout.{PartLayout, Layout}
 use Rattle.host_recovery.specs.Standing.{part_layout}
 
 -- a file of the name is there

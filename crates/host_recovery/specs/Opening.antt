@@ -6,7 +6,7 @@ use Rattle.disk_model.specs.Image.{Image}
 use Rattle.disk_model.specs.View.{View, MayLeave}
 use Rattle.segment_set.specs.declared.opening.OpenError.{OpenError}
 use Rattle.segment_set.specs.Fits.{IsEmptyWhereNone}
-use Rattle.log_model.specs.Admission.{Item}
+use Rattle.log_model.specs.plain.Admission.{Item}
 use Rattle.host_recovery.specs.Seen.{Seen}
 use Rattle.host_recovery.specs.Standing.{IsLog, StandsAt, StandsFor}
 

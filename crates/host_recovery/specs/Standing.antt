@@ -12,10 +12,10 @@ use Rattle.segment_files.specs.Parse.{Part, is_built_effect}
 use Rattle.segment_files.specs.Folder.{folder, Stands}
 use Rattle.segment_set.specs.declared.parts.Parts.{Parts}
 use Rattle.segment_set.specs.Fits.{Fits, IsHeld, last_of, log_of, parts_in}
-use Rattle.log_model.specs.Admission.{Item, Admission, Admitted, Repeats, Refused, Expired, Expiry, Expires, Nobody, Not_now}
-use Rattle.log_model.specs.Fitting.{ItemsFit}
-use Rattle.log_model.specs.Hosted.{hosted_folded, hosted_stored, is_hosted_log}
-use Rattle.log_model.specs.Layout.{Layout, PartLayout}
+use Rattle.log_model.specs.plain.Admission.{Item, Admission, Admitted, Repeats, Refused, Expired, Expiry, Expires, Nobody, Not_now}
+use Rattle.log_model.specs.plain.Fitting.{ItemsFit}
+use Rattle.log_model.specs.hosted.Hosted.{hosted_folded, hosted_stored, is_hosted_log}
+use Rattle.log_model.specs.cleaning.Layout.{Layout, PartLayout}
 use Rattle.host_core.specs.Seen.{hosted}
 use Rattle.host_recovery.specs.Seen.{Seen}
 

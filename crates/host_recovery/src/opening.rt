@@ -9,10 +9,10 @@ ghost use Rattle.segment_files.specs.Folder.{folder, entries_of, IsChoice, IsFau
 ghost use Rattle.host_types.specs.declared.entry.Entry.{Entry};
 ghost use Rattle.segment_set.specs.Fits.{Fits, IsEmptyWhereNone, IsHeld, IsInOrder as FilesAreInOrder, KeepsNames, TailFits, last_of, parts_in};
 ghost use Rattle.segment_set.specs.Opening.{HasOpenCause, IsGreatestListed, id_from};
-ghost use Rattle.log_model.specs.Admission.{Item};
-ghost use Rattle.log_model.specs.Hosted.{hosted_nothing, hosted_told};
-ghost use Rattle.log_model.specs.Layout.{alone};
-ghost use Rattle.log_model.specs.Replay.{replay_from, replayed};
+ghost use Rattle.log_model.specs.plain.Admission.{Item};
+ghost use Rattle.log_model.specs.hosted.Hosted.{hosted_nothing, hosted_told};
+ghost use Rattle.log_model.specs.cleaning.Layout.{alone};
+ghost use Rattle.log_model.specs.replay.Replay.{replay_from, replayed};
 ghost use Rattle.host_core.specs.Seen.{TellsNothing, hosted};
 ghost use Rattle.host_recovery.specs.Standing.{StandsAt, StandsFor, StoresBuilt, layout_in};
 ghost use Rattle.host_recovery.specs.Lying.{Lies};

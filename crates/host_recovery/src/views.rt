@@ -3,12 +3,12 @@ ghost use Rattle.std.specs.Prelude.{◌≡◌, true, List, length, map, is_none,
 ghost use Rattle.disk_model.specs.Image.{Image};
 ghost use Rattle.disk_model.specs.View.{MayLeave};
 ghost use Rattle.segment_set.specs.Fits.{IsEmptyWhereNone};
-ghost use Rattle.log_model.specs.Layout.{alone, needs_file};
+ghost use Rattle.log_model.specs.cleaning.Layout.{alone, needs_file};
 ghost use Rattle.host_recovery.specs.Lying.{LiesAlone};
 ghost use Rattle.host_recovery.specs.Standing.{StandsAt, StandsFor, layout_in};
 ghost use Rattle.host_types.specs.Decision.{is_looking};
-ghost use Rattle.log_model.specs.Admission.{Item, due_in};
-ghost use Rattle.log_model.specs.Hosted.{hosted_quiet, machine_cells};
+ghost use Rattle.log_model.specs.plain.Admission.{Item, due_in};
+ghost use Rattle.log_model.specs.hosted.Hosted.{hosted_quiet, machine_cells};
 ghost use Rattle.session_table.specs.Table.{view_at};
 ghost use Rattle.host_core.specs.Seen.{hosted};
 ghost use Rattle.host_recovery.specs.Answers.{IsShown};

@@ -3,7 +3,7 @@ use Rattle.std.specs.Prelude.{◌≡◌, ℕ, ◌≤◌}
 use Rattle.host_types.specs.Cells.{places_of}
 use Rattle.commit_lending.specs.Lent.{Lent, tokens}
 use Rattle.machine.specs.Release.{AreOut}
-use Rattle.log_model.specs.Quiet.{kept_indexes}
+use Rattle.log_model.specs.plain.Quiet.{kept_indexes}
 use Rattle.event_batches.specs.Rising.{AreBelow}
 use Rattle.session_table.specs.Table.{Table, as_state, ids}
 use Rattle.session_table.specs.Places.{table_cells}

@@ -8,12 +8,12 @@ use Rattle.std.specs.Ordering.{nat_cmp, eq_by_cmp}
 use Rattle.std.specs.Cmp.{nat_cmp_total}
 use Rattle.host_types.specs.Cells.{Place, Name_at, Cell_at, Register_at, Alive_at, Held, Cells, is_text, place_cmp, at, named as held_name}
 use Rattle.host_types.proofs.Places.{place_total, exact_places}
-use Rattle.log_model.specs.Plain.{Named_resource, State, kind_of}
-use Rattle.log_model.specs.Telling.{name_held, by_instance, EachName, ShowsState}
-use Rattle.log_model.proofs.Gather.{none_some}
+use Rattle.log_model.specs.plain.Plain.{Named_resource, State, kind_of}
+use Rattle.log_model.specs.replay.Telling.{name_held, by_instance, EachName, ShowsState}
+use Rattle.log_model.proofs.kinds.Gather.{none_some}
 use Rattle.log_model.proofs.Lookups.{T_from, T_both, below_missing, tied_true}
-use Rattle.log_model.proofs.Tellings.{shown_found}
-use Rattle.log_model.proofs.Tracks.{find_passes, found_name, same_text, text_itself, other_place}
+use Rattle.log_model.proofs.replay.Tellings.{shown_found}
+use Rattle.log_model.proofs.plain.Tracks.{find_passes, found_name, same_text, text_itself, other_place}
 use Rattle.resource_catalog.specs.Catalog.{is_name, names_in}
 
 -- ---- the names as cells

@@ -9,8 +9,8 @@ use Rattle.std.specs.Cmp.{nat_cmp_total}
 use Rattle.host_types.specs.declared.entry.Kind.{Kind}
 use Rattle.host_types.specs.declared.entry.Effect.{Effect}
 use Rattle.host_types.specs.Cells.{Place, Name_at, Cell_at, Register_at, Alive_at, Held, Cells, text_cmp, at}
-use Rattle.log_model.specs.Telling.{named_pick}
-use Rattle.log_model.proofs.Gather.{none_some, gather_is}
+use Rattle.log_model.specs.replay.Telling.{named_pick}
+use Rattle.log_model.proofs.kinds.Gather.{none_some, gather_is}
 use Rattle.log_model.proofs.Lookups.{below_missing, tied_true, tied_same}
 use Rattle.resource_catalog.specs.declared.names.Named.{Named}
 use Rattle.resource_catalog.specs.declared.slots.Slot.{Slot}

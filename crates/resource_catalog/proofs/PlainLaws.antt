@@ -17,21 +17,21 @@ use Rattle.host_types.specs.declared.entry.Op.TheVariants.{Create, Delete}
 use Rattle.host_types.specs.declared.entry.Effect.TheVariants.{Create as Creates, Delete as Deletes}
 use Rattle.host_types.specs.declared.entry.Reply.TheVariants.{None as No_reply, Index}
 use Rattle.host_types.specs.declared.entry.Refusal.TheVariants.{Kind as Other_kind, Names}
-use Rattle.log_model.specs.Plain.{Named_resource, State, named, kind_of}
-use Rattle.log_model.specs.PlainMachine.{choice_of}
-use Rattle.log_model.specs.Rows.{Row, Does, Out_of_range, Of_no_kind, row, without_session}
-use Rattle.log_model.specs.Step.{told_close}
-use Rattle.log_model.specs.Commands.{Outcome, outcome, outcome_at, outcome_new, outcome_there, row_outcome, shown_by, plain_look, name_limit, kind_number}
-use Rattle.log_model.specs.Shows.{Shows}
-use Rattle.log_model.specs.Reading.{kind_decision}
-use Rattle.log_model.specs.Telling.{effect_instance, tells_kind as told_kind, tells_there, tells_at, name_held, by_instance, EachName, ShowsState}
-use Rattle.log_model.specs.Deciding.{chosen, shown, call_of, DecidesAsPlain}
-use Rattle.log_model.proofs.AsPlain.{as_plain}
+use Rattle.log_model.specs.plain.Plain.{Named_resource, State, named, kind_of}
+use Rattle.log_model.specs.hosted.PlainMachine.{choice_of}
+use Rattle.log_model.specs.plain.Rows.{Row, Does, Out_of_range, Of_no_kind, row, without_session}
+use Rattle.log_model.specs.plain.Step.{told_close}
+use Rattle.log_model.specs.plain.Commands.{Outcome, outcome, outcome_at, outcome_new, outcome_there, row_outcome, shown_by, plain_look, name_limit, kind_number}
+use Rattle.log_model.specs.kinds.Shows.{Shows}
+use Rattle.log_model.specs.kinds.Reading.{kind_decision}
+use Rattle.log_model.specs.replay.Telling.{effect_instance, tells_kind as told_kind, tells_there, tells_at, name_held, by_instance, EachName, ShowsState}
+use Rattle.log_model.specs.kinds.Deciding.{chosen, shown, call_of, DecidesAsPlain}
+use Rattle.log_model.proofs.kinds.AsPlain.{as_plain}
 use Rattle.log_model.proofs.Lookups.{T_from, from_T}
-use Rattle.log_model.proofs.Readings.{decides_own}
-use Rattle.log_model.proofs.ShownCloses.{others_shown}
-use Rattle.log_model.proofs.Tellings.{name_found, names_are, tells_shown, shown_found}
-use Rattle.log_model.proofs.Tracks.{find_passes, same_text}
+use Rattle.log_model.proofs.kinds.Readings.{decides_own}
+use Rattle.log_model.proofs.kinds.ShownCloses.{others_shown}
+use Rattle.log_model.proofs.replay.Tellings.{name_found, names_are, tells_shown, shown_found}
+use Rattle.log_model.proofs.plain.Tracks.{find_passes, same_text}
 use Rattle.resource_catalog.specs.Kinds.{is_built, unbuilt, decision_of}
 use Rattle.resource_catalog.specs.Catalog.{is_place_of, names_in, part, instances, choice_new, choice_there, choice_at, look_at, tells_kind, tells_named, tells_on, closes_kind, catalog_decision}
 use Rattle.resource_catalog.specs.CatalogLaws.{at_part}

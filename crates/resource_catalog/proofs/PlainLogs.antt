@@ -14,29 +14,29 @@ use Rattle.host_types.specs.declared.entry.Effect.TheVariants.{Nothing, Create a
 use Rattle.host_types.specs.declared.entry.Reply.TheVariants.{Index}
 use Rattle.host_types.specs.declared.entry.Refusal.TheVariants.{Kind as Other_kind, Names}
 use Rattle.host_types.specs.Cells.{Name_at, Cell_at, Cells, is_text}
-use Rattle.log_model.specs.Cells.{after, cells_from}
-use Rattle.log_model.specs.Cleaning.{numbered}
-use Rattle.log_model.specs.Plain.{Named_resource, State, nothing_yet, named, kind_of, new_plain}
-use Rattle.log_model.specs.Admission.{Admission, Item, Offered, Expired, admits_offer, declined_by, refused_outcome, admits}
-use Rattle.log_model.specs.Commands.{Outcome, Decided, Declined, outcome, outcome_at, outcome_new, outcome_there, row_outcome, name_limit, kind_number}
-use Rattle.log_model.specs.Rows.{Row, Does, Out_of_range, Of_no_kind, row}
-use Rattle.log_model.specs.Step.{step, asked, closed_name, commanded, fold_from, folded}
-use Rattle.log_model.specs.Stored.{decided_body, asked_body, entry_of, stored_from, stored, is_admission, is_admitted, is_log_from}
-use Rattle.log_model.specs.Batches.{told, told_ask, told_outcome}
-use Rattle.log_model.specs.Quiet.{kept_of, greatest_below}
-use Rattle.log_model.specs.Hosted.{Hosted, hosted_nothing, machine_cells, refused_choice, hosted_declined, hosted_admits, hosted_expires, is_hosted_admitted, choice_body, hosted_entry, hosted_told, sessions_after, hosted_after, hosted_step, hosted_from, hosted_folded, hosted_stored_from, is_hosted_log_from}
-use Rattle.log_model.specs.Telling.{ShowsState}
-use Rattle.log_model.specs.Shows.{Shows}
-use Rattle.log_model.specs.Deciding.{call_of}
-use Rattle.log_model.specs.PlainMachine.{choice_of}
+use Rattle.log_model.specs.cleaning.Cells.{after, cells_from}
+use Rattle.log_model.specs.cleaning.Cleaning.{numbered}
+use Rattle.log_model.specs.plain.Plain.{Named_resource, State, nothing_yet, named, kind_of, new_plain}
+use Rattle.log_model.specs.plain.Admission.{Admission, Item, Offered, Expired, admits_offer, declined_by, refused_outcome, admits}
+use Rattle.log_model.specs.plain.Commands.{Outcome, Decided, Declined, outcome, outcome_at, outcome_new, outcome_there, row_outcome, name_limit, kind_number}
+use Rattle.log_model.specs.plain.Rows.{Row, Does, Out_of_range, Of_no_kind, row}
+use Rattle.log_model.specs.plain.Step.{step, asked, closed_name, commanded, fold_from, folded}
+use Rattle.log_model.specs.plain.Stored.{decided_body, asked_body, entry_of, stored_from, stored, is_admission, is_admitted, is_log_from}
+use Rattle.log_model.specs.serving.Batches.{told, told_ask, told_outcome}
+use Rattle.log_model.specs.plain.Quiet.{kept_of, greatest_below}
+use Rattle.log_model.specs.hosted.Hosted.{Hosted, hosted_nothing, machine_cells, refused_choice, hosted_declined, hosted_admits, hosted_expires, is_hosted_admitted, choice_body, hosted_entry, hosted_told, sessions_after, hosted_after, hosted_step, hosted_from, hosted_folded, hosted_stored_from, is_hosted_log_from}
+use Rattle.log_model.specs.replay.Telling.{ShowsState}
+use Rattle.log_model.specs.kinds.Shows.{Shows}
+use Rattle.log_model.specs.kinds.Deciding.{call_of}
+use Rattle.log_model.specs.hosted.PlainMachine.{choice_of}
 use Rattle.log_model.proofs.Lookups.{T_from, from_T}
-use Rattle.log_model.proofs.Growth.{last_step}
-use Rattle.log_model.proofs.Parts.{at_machine, sorted_machine}
-use Rattle.log_model.proofs.WholeFold.{step_sessions, now_step, seen}
-use Rattle.log_model.proofs.OfMachines.{last-hosted}
-use Rattle.log_model.proofs.RowEffects.{RowSuits, row_suits, closing_kind}
-use Rattle.log_model.proofs.ShownCloses.{others_shown}
-use Rattle.log_model.proofs.Shown.{Whole, each_name, shows_state, whole_next, whole_nothing}
+use Rattle.log_model.proofs.cleaning.Growth.{last_step}
+use Rattle.log_model.proofs.hosted.Parts.{at_machine, sorted_machine}
+use Rattle.log_model.proofs.replay.WholeFold.{step_sessions, now_step, seen}
+use Rattle.log_model.proofs.hosted.OfMachines.{last-hosted}
+use Rattle.log_model.proofs.plain.RowEffects.{RowSuits, row_suits, closing_kind}
+use Rattle.log_model.proofs.kinds.ShownCloses.{others_shown}
+use Rattle.log_model.proofs.replay.Shown.{Whole, each_name, shows_state, whole_next, whole_nothing}
 use Rattle.resource_catalog.specs.Kinds.{is_built}
 use Rattle.resource_catalog.specs.Catalog.{catalog_decision}
 use Rattle.resource_catalog.specs.PlainNames.{EachIsBuilt, IsOfBuilt, AsksForBuilt, IsItemOfBuilt, DecidesAsModel, LogsAreAsModel}

@@ -15,9 +15,9 @@ use Rattle.host_types.specs.declared.entry.Reply.{Reply}
 use Rattle.host_types.specs.declared.entry.Reply.TheVariants.{None as No_reply, Index}
 use Rattle.host_types.specs.declared.entry.Refusal.{Refusal}
 use Rattle.host_types.specs.declared.entry.Refusal.TheVariants.{NoName, Kind as Other_kind, Names}
-use Rattle.log_model.specs.Commands.{name_limit, kind_number}
-use Rattle.log_model.specs.Reading.{gather}
-use Rattle.log_model.specs.Telling.{named_pick, effect_instance}
+use Rattle.log_model.specs.plain.Commands.{name_limit, kind_number}
+use Rattle.log_model.specs.kinds.Reading.{gather}
+use Rattle.log_model.specs.replay.Telling.{named_pick, effect_instance}
 use Rattle.resource_catalog.specs.Kinds.{is_built, decision_of}
 
 -- a place of this instance

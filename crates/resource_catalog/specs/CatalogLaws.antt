@@ -16,8 +16,8 @@ use Rattle.host_types.specs.declared.entry.Effect.TheVariants.{Nothing, Create a
 use Rattle.host_types.specs.declared.entry.Reply.{Reply}
 use Rattle.host_types.specs.declared.entry.Reply.TheVariants.{None as No_reply, Index}
 use Rattle.host_types.specs.declared.entry.Refusal.TheVariants.{Names as Too_many, Kind as Other_kind}
-use Rattle.log_model.specs.Commands.{name_limit, kind_number}
-use Rattle.log_model.specs.LawfulRows.{EffectSuits, suits_agree, found_owner, found_place}
+use Rattle.log_model.specs.plain.Commands.{name_limit, kind_number}
+use Rattle.log_model.specs.kinds.LawfulRows.{EffectSuits, suits_agree, found_owner, found_place}
 use Rattle.log_model.proofs.Lookups.{any_from_found}
 use Rattle.resource_catalog.specs.Kinds.{is_built, decision_of, decision_lawful, decision_owner}
 use Rattle.resource_catalog.specs.Catalog.{is_place_of, part, names_in, choice_new, choice_there, choice_kind, choice_at, catalog_decision}

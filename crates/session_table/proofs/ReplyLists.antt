@@ -3,8 +3,8 @@ use Rattle.std.proofs.Common.{◌≡◌, ℕ, ◌-◌, ◌<◌, ◌≤◌, ◌==
 use Rattle.std.proofs.lemmas.Bool.{le-leb, lt-leb, cases_lt, false_from_ne_true}
 use Rattle.std.specs.List.{filter, find}
 use Rattle.std.specs.Option.{option_map}
-use Rattle.log_model.specs.Plain.{Kept_reply}
-use Rattle.log_model.specs.Quiet.{greatest_below}
+use Rattle.log_model.specs.plain.Plain.{Kept_reply}
+use Rattle.log_model.specs.plain.Quiet.{greatest_below}
 use Rattle.event_batches.specs.Rising.{Rises, AreBelow, last_of}
 use Rattle.event_batches.proofs.RisingLists.{below_append, find_through, map_push}
 use Rattle.event_batches.proofs.Searching.{rises_lower}

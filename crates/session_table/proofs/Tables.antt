@@ -8,8 +8,8 @@ use Rattle.std.specs.VecDeque.{deque_len, deque_capacity}
 use Rattle.host_types.specs.Cells.{Place, Held, Register_at, marked}
 use Rattle.std.specs.Option.{option_map, option_map_or, IsSome, IsSomeAnd}
 use Rattle.slab.specs.Slab.{get, with_value, ContainsKey, slab_len}
-use Rattle.log_model.specs.Plain.{Session}
-use Rattle.log_model.specs.Step.{changed}
+use Rattle.log_model.specs.plain.Plain.{Session}
+use Rattle.log_model.specs.plain.Step.{changed}
 use Rattle.event_batches.specs.Rising.{Rises}
 use Rattle.session_table.specs.Kept.{Kept_session}
 use Rattle.session_table.specs.Table.{Beside, Room, Table, session_at, IsOpen, confirmed_of, reply_room, batch_room, KeepsRoom, IsSame, beside_changed, beside_confirmed}

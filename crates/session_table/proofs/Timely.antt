@@ -3,8 +3,8 @@ use Rattle.std.proofs.Common.{◌≡◌, ℕ, ◌+◌, ◌-◌, ◌<◌, ◌≤�
 use Rattle.std.proofs.lemmas.Bool.{cases_eq}
 use Rattle.std.proofs.lemmas.Bool.Decides.{nat_tests}
 use Rattle.std.proofs.lemmas.Option.{none-some, same_Some}
-use Rattle.log_model.specs.Plain.{Session}
-use Rattle.log_model.specs.Admission.{is_due}
+use Rattle.log_model.specs.plain.Plain.{Session}
+use Rattle.log_model.specs.plain.Admission.{is_due}
 use Rattle.slab.specs.Slab.{get, with_value, Updates}
 use Rattle.slab.proofs.SlabLemmas.{Updates-with_value}
 use Rattle.session_table.specs.Kept.{Kept_session}

@@ -4,9 +4,9 @@ use Rattle.std.proofs.lemmas.List.{drop_more, drop_all, take_all}
 use Rattle.std.specs.List.{find}
 use Rattle.std.specs.Option.{IsSomeAnd}
 use Rattle.slab.specs.Slab.{get, ContainsKey}
-use Rattle.log_model.specs.Plain.{Session}
-use Rattle.log_model.specs.Admission.{is_due, due}
-use Rattle.log_model.specs.Quiet.{kept_indexes, greatest_below}
+use Rattle.log_model.specs.plain.Plain.{Session}
+use Rattle.log_model.specs.plain.Admission.{is_due, due}
+use Rattle.log_model.specs.plain.Quiet.{kept_indexes, greatest_below}
 use Rattle.session_table.specs.Kept.{Kept_session, session_indexes}
 use Rattle.session_table.specs.Table.{as_state}
 use Rattle.session_table.specs.Deadlines.{deadline, deadline_at, IsAtMostEach}

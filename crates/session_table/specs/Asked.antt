@@ -1,7 +1,7 @@
 -- What is asked of one session of the table, and what it has to be given.
 use Rattle.std.specs.Prelude.{ℕ, ◌<◌, Bool, false, map, Option, Some, None}
-use Rattle.log_model.specs.Plain.{Session}
-use Rattle.log_model.specs.Batches as model
+use Rattle.log_model.specs.plain.Plain.{Session}
+use Rattle.log_model.specs.serving.Batches as model
 use Rattle.event_batches.specs.Kept.{served, has_batch, can_confirm}
 use Rattle.event_batches.specs.Rising.{AreBelow}
 use Rattle.session_table.specs.Table.{Table, session_at, confirmed_of}

@@ -1,6 +1,6 @@
 -- When sessions are due, and how their deadlines are kept.
 use Rattle.std.specs.Prelude.{◌≡◌, ℕ, ◌+◌, ◌-◌, ◌/◌, ◌^◌, ◌<◌, ◌≤◌, min, List, length, slice_index_or}
-use Rattle.log_model.specs.Plain.{Session}
+use Rattle.log_model.specs.plain.Plain.{Session}
 
 -- A session is due at each time above its deadline. One whose timeout ends past all times is never due.
 abbrev pub deadline : Session → ℕ

@@ -1,6 +1,6 @@
 -- What the table sees of one open session.
 use Rattle.std.specs.Prelude.{ℕ, ◌++◌, List, map}
-use Rattle.log_model.specs.Plain.{Kept_batch, Session}
+use Rattle.log_model.specs.plain.Plain.{Kept_batch, Session}
 use Rattle.session_table.specs.Replies.{reply_indexes}
 
 -- the session as the model has it, the event that was confirmed last, and for how many more replies and batches there is room

@@ -1,7 +1,7 @@
 -- What callers see of a session's replies.
 use Rattle.std.specs.Prelude.{ℕ, ◌==◌, List, map, Option}
 use Rattle.std.specs.List.{find}
-use Rattle.log_model.specs.Plain.{Kept_reply}
+use Rattle.log_model.specs.plain.Plain.{Kept_reply}
 
 -- the kept replies, and for how many more there is room
 pub record Kept_replies : Type 0 where

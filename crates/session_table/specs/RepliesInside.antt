@@ -1,7 +1,7 @@
 -- How the replies of a session are kept.
 use Rattle.std.specs.Prelude.{◌-◌, map}
 use Rattle.std.specs.VecDeque.{deque_len, deque_capacity}
-use Rattle.log_model.specs.Plain.{Kept_reply}
+use Rattle.log_model.specs.plain.Plain.{Kept_reply}
 use Rattle.event_batches.specs.Rising.{Rises}
 use Rattle.session_table.specs.Replies.{Kept_replies}
 use Rattle.session_table.specs.declared.replies.KeptReply.{KeptReply}

@@ -5,7 +5,7 @@ use Rattle.slab.specs.Slab.{Slab, get}
 use Rattle.commit_lending.specs.Lent.{Lent, one_of}
 use Rattle.machine.specs.Holding.{held_by}
 use Rattle.machine.specs.Release.{AreOut, Releases}
-use Rattle.log_model.specs.Plain.{Session}
+use Rattle.log_model.specs.plain.Plain.{Session}
 use Rattle.session_table.specs.Kept.{Kept_session}
 use Rattle.session_table.specs.Deadlines.{deadline, deadline_at}
 use Rattle.session_table.specs.Table.{Beside, Room}

@@ -4,9 +4,9 @@ use Rattle.std.specs.List.{filter, find}
 use Rattle.std.specs.Option.{option_map, option_map_or}
 use Rattle.host_types.specs.declared.entry.Event.{Event}
 use Rattle.host_types.specs.declared.entry.Reply.{Reply}
-use Rattle.log_model.specs.Plain.{Session, State, nothing_yet, session_of}
-use Rattle.log_model.specs.Admission.{reply_kept}
-use Rattle.log_model.specs.Step.{kept_alive}
+use Rattle.log_model.specs.plain.Plain.{Session, State, nothing_yet, session_of}
+use Rattle.log_model.specs.plain.Admission.{reply_kept}
+use Rattle.log_model.specs.plain.Step.{kept_alive}
 use Rattle.event_batches.specs.Kept.{pushed}
 use Rattle.session_table.specs.declared.view.SessionView.{SessionView}
 

@@ -1,15 +1,15 @@
 // One open session, but for its commits.
 ghost use Rattle.std.specs.Prelude.{◌≡◌, ◌+◌, ◌≤◌, ◌<◌, max, cond, is_ok, IfErr, OnOk};
 ghost use Rattle.std.specs.Option.{option_map, option_copied};
-ghost use Rattle.log_model.specs.Admission.{is_due, reply_kept};
-ghost use Rattle.log_model.specs.Quiet.{greatest_below};
-ghost use Rattle.log_model.specs.Step.{new_session, with_reply};
+ghost use Rattle.log_model.specs.plain.Admission.{is_due, reply_kept};
+ghost use Rattle.log_model.specs.plain.Quiet.{greatest_below};
+ghost use Rattle.log_model.specs.plain.Step.{new_session, with_reply};
 ghost use Rattle.event_batches.specs.Kept.{as_batch, served, has_batch, can_confirm};
 ghost use Rattle.event_batches.specs.Rising.{AreBelow};
 ghost use Rattle.session_table.specs.Kept.{session_indexes, batch_indexes};
 ghost use Rattle.session_table.specs.Deadlines.{deadline};
 ghost use Rattle.session_table.specs.Replies.{reply_indexes};
-ghost use Rattle.log_model.specs.Replay.{noted};
+ghost use Rattle.log_model.specs.replay.Replay.{noted};
 ghost use Rattle.session_table.specs.Table.{view_of, alive_at, with_batch};
 
 use crate::replies::Replies;

@@ -3,7 +3,7 @@ ghost use Rattle.std.specs.Prelude.{◌≡◌, ◌+◌, ◌≤◌, ◌<◌, [], 
 ghost use Rattle.std.specs.List.{filter, find};
 ghost use Rattle.std.specs.Option.{option_map, option_copied};
 ghost use Rattle.std.specs.VecDeque.{deque_len, deque_capacity};
-ghost use Rattle.log_model.specs.Quiet.{greatest_below};
+ghost use Rattle.log_model.specs.plain.Quiet.{greatest_below};
 ghost use Rattle.event_batches.specs.Rising.{AreBelow, Rises};
 ghost use Rattle.session_table.specs.Replies.{with_seq, reply_indexes, reply_seqs};
 

@@ -16,7 +16,7 @@ use Rattle.host_types.specs.declared.entry.Kind.TheVariants.{Value, Counter}
 use Rattle.host_types.specs.Cells.{Place, Cell_at, Held, Cells, place_cmp, filled, is_of_kind, is_met, without, put_all, effect_puts, effect_covers, instance_fits, instance_after, places_of}
 use Rattle.host_types.proofs.Places.{place_total}
 use Rattle.machine.specs.Holding.{held_by}
-use Rattle.log_model.specs.Shows.{content_at}
+use Rattle.log_model.specs.kinds.Shows.{content_at}
 use Rattle.value_counter.specs.One.{cell_if, IsReady, has_one_cell}
 use Rattle.value_counter.specs.Changes.{change_of}
 use Rattle.value_counter.specs.declared.one.Filled.{Filled}

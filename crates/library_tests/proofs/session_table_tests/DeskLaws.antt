@@ -10,9 +10,9 @@ use Rattle.host_types.specs.declared.entry.Reply.{Reply}
 use Rattle.commit_lending.specs.Lent.{Lent, tokens, one_of}
 use Rattle.machine.specs.Release.{AreOut, Releases}
 use Rattle.machine.proofs.ReleaseLaws.{are_out_lent, are_out_with, are_out_still, are_out_same, holds_nothing}
-use Rattle.log_model.specs.Plain.{Kept_reply, Kept_batch, Session}
-use Rattle.log_model.specs.Quiet.{kept_indexes}
-use Rattle.log_model.specs.Step.{changed, new_session, with_reply}
+use Rattle.log_model.specs.plain.Plain.{Kept_reply, Kept_batch, Session}
+use Rattle.log_model.specs.plain.Quiet.{kept_indexes}
+use Rattle.log_model.specs.plain.Step.{changed, new_session, with_reply}
 use Rattle.event_batches.specs.Rising.{AreBelow}
 use Rattle.event_batches.proofs.RisingLists.{below_append}
 use Rattle.session_table.specs.Kept.{session_indexes, batch_indexes}

@@ -33,5 +33,5 @@ returns-in-Command κs c =
     subst (λ b. Entered c.args.commit (record { time = c.args.entry.time; body = b }) c.args.cut (κs.M.Machine.cells c.args.machine.now) (κs.M.Machine.cells c.enter_effect.new.machine) c.args.sessions.now c.keep_reply.new.sessions c.enter_effect.new.lender) (sym c.in-Command.is)
     (entered_command c.args.commit c.args.entry.time c.args.cut (κs.M.Machine.cells c.args.machine.now) c.args.sessions.now c.args.lender.now c.requires.meets c.in-Command.session c.in-Command.seq c.in-Command.effect c.in-Command.reply (κs.M.Machine.cells c.enter_effect.new.machine) c.keep_reply.new.sessions c.enter_effect.new.lender
     (c.enter_effect.ensures.machine c.in-Command.session c.in-Command.seq c.in-Command.reply)
-    (subst (λ i. c.keep_reply.new.sessions.sessions ≡ Rattle.log_model.specs.Step.changed c.in-Command.session (Rattle.log_model.specs.Replay.replay_reply c.args.cut c.in-Command.seq i c.in-Command.reply) c.args.sessions.now.sessions) c.index-index-in-Command.ensures c.keep_reply.ensures.sessions)
+    (subst (λ i. c.keep_reply.new.sessions.sessions ≡ Rattle.log_model.specs.plain.Step.changed c.in-Command.session (Rattle.log_model.specs.replay.Replay.replay_reply c.args.cut c.in-Command.seq i c.in-Command.reply) c.args.sessions.now.sessions) c.index-index-in-Command.ensures c.keep_reply.ensures.sessions)
     c.keep_reply.ensures.beside c.enter_effect.ensures.out)

@@ -2,8 +2,8 @@ use Rattle.std.proofs.Common.{sym, ap, ◌∙◌, is_some, refl, arith}
 use Rattle.host_types.specs.Cells.{places_of}
 use Rattle.session_table.specs.Table.{alive_at}
 use Rattle.session_table.specs.Places.{cells_of}
-use Rattle.log_model.specs.Step.{changed}
-use Rattle.log_model.specs.Replay.{noted}
+use Rattle.log_model.specs.plain.Step.{changed}
+use Rattle.log_model.specs.replay.Replay.{noted}
 use Rattle.host_core.proofs.Meeting.{none_of_table, changed_none, shut, open_changed, heard_as, alive_stays, alive_stays_beside, is_open}
 use Rattle.host_core.proofs.entering.enter_alive.Goals as goal
 
@@ -25,7 +25,7 @@ alive-requires-clause-new c = none_of_table c.args.commit c.requires.meets.0 c.a
 
 pub note-requires : goal.note-requires
 note-requires c =
-    ap (λ ss. is_some (Rattle.log_model.specs.Plain.session_in c.args.session ss)) c.alive.ensures.sessions
+    ap (λ ss. is_some (Rattle.log_model.specs.plain.Plain.session_in c.args.session ss)) c.alive.ensures.sessions
     ∙ open_changed c.args.session (alive_at c.args.time c.args.seq c.args.event) (λ x. refl) c.args.sessions.now.sessions
     ∙ sym (is_open c.args.session c.args.sessions.now) ∙ ap is_some (sym c.find.ensures) ∙ c.if-is_none.ensures
 

@@ -1,8 +1,8 @@
 use Rattle.std.proofs.Common.{◌≡◌, ℕ, [], sym, ap, subst, ◌∙◌, arith}
 use Rattle.std.specs.Vec.Iter.{into_iter_items}
 use Rattle.segment_files.specs.Contents.{AreNumbered}
-use Rattle.log_model.specs.Hosted.{Hosted, hosted_told}
-use Rattle.log_model.specs.Replay.{replay_from}
+use Rattle.log_model.specs.hosted.Hosted.{Hosted, hosted_told}
+use Rattle.log_model.specs.replay.Replay.{replay_from}
 use Rattle.host_core.specs.Seen.{hosted}
 use Rattle.host_recovery.proofs.Openings.{none_left}
 use Rattle.host_recovery.proofs.opening.replay_all.Goals as goal

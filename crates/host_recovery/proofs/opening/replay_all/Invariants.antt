@@ -1,8 +1,8 @@
 use Rattle.std.proofs.Common.{◌≡◌}
 use Rattle.std.specs.Vec.Iter.{into_iter_items}
 use Rattle.segment_files.specs.Contents.{AreNumbered}
-use Rattle.log_model.specs.Hosted.{hosted_told}
-use Rattle.log_model.specs.Replay.{replay_from}
+use Rattle.log_model.specs.hosted.Hosted.{hosted_told}
+use Rattle.log_model.specs.replay.Replay.{replay_from}
 use Rattle.host_core.specs.Seen.{hosted}
 use Rattle.host_recovery.proofs.opening.replay_all.Given as goal
 

@@ -1,5 +1,5 @@
 use Rattle.std.proofs.Common.{subst, sym, List}
-use Rattle.log_model.specs.Plain.{Kept_batch}
+use Rattle.log_model.specs.plain.Plain.{Kept_batch}
 use Rattle.event_batches.specs.Kept.{indexes}
 use Rattle.event_batches.specs.Rising.{AreBelow}
 use Rattle.event_batches.proofs.Queues.{below_pushed}

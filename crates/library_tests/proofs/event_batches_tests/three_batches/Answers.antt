@@ -1,5 +1,5 @@
 use Rattle.std.proofs.Common.{◌≡◌, ℕ, subst, sym, List, [], arith}
-use Rattle.log_model.specs.Plain.{Kept_batch}
+use Rattle.log_model.specs.plain.Plain.{Kept_batch}
 use Rattle.event_batches.specs.Kept.{indexes}
 use Rattle.event_batches.specs.Rising.{AreBelow}
 use Rattle.library_tests.proofs.event_batches_tests.three_batches.Goals as goal

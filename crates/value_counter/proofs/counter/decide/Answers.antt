@@ -3,9 +3,9 @@ use Rattle.std.specs.Option.{option_map}
 use Rattle.host_types.specs.declared.entry.Op.{Op}
 use Rattle.host_types.specs.declared.entry.Kind.TheVariants.{Counter}
 use Rattle.machine.specs.Answers.{Resolves}
-use Rattle.log_model.specs.Rows.{counter_row}
-use Rattle.log_model.specs.Shows.{number_of}
-use Rattle.log_model.specs.Deciding.{chosen, call_of}
+use Rattle.log_model.specs.plain.Rows.{counter_row}
+use Rattle.log_model.specs.kinds.Shows.{number_of}
+use Rattle.log_model.specs.kinds.Deciding.{chosen, call_of}
 use Rattle.value_counter.specs.declared.one.Filled.{Filled}
 use Rattle.value_counter.proofs.counter.decide.Goals as goal
 

@@ -1,5 +1,5 @@
 use Rattle.std.proofs.Common.{◌∙◌, ap, sym, Some}
-use Rattle.log_model.specs.Quiet.{greatest_below}
+use Rattle.log_model.specs.plain.Quiet.{greatest_below}
 use Rattle.event_batches.specs.Kept.{Kept, as_kept, indexes}
 use Rattle.event_batches.proofs.Searching.{lent_at}
 use Rattle.event_batches.proofs.RisingLists.{map_twice, quiet_is}

@@ -1,7 +1,7 @@
 use Rattle.std.proofs.Common.{◌+◌, sym, ap, subst, ◌∙◌}
 use Rattle.std.specs.Prelude.{IfOk}
-use Rattle.log_model.specs.Admission.{Offered, due_in}
-use Rattle.log_model.specs.Hosted.{hosted_admits, hosted_entry}
+use Rattle.log_model.specs.plain.Admission.{Offered, due_in}
+use Rattle.log_model.specs.hosted.Hosted.{hosted_admits, hosted_entry}
 use Rattle.host_core.specs.Answers.{Decides_as, IsStorable}
 use Rattle.host_core.specs.Seen.{Seen, hosted}
 use Rattle.host_core.proofs.Keeping.{decided_in_time, storable_all}

@@ -1,6 +1,6 @@
 use Rattle.std.proofs.Common.{ap, ◌∙◌}
-use Rattle.log_model.specs.Hosted.{hosted_told}
-use Rattle.log_model.specs.Replay.{replay_entry}
+use Rattle.log_model.specs.hosted.Hosted.{hosted_told}
+use Rattle.log_model.specs.replay.Replay.{replay_entry}
 use Rattle.host_core.specs.Entering.{beside_after}
 use Rattle.host_core.proofs.state.Core.replay.Goals as goal
 

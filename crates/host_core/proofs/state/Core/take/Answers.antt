@@ -28,7 +28,7 @@ returns-clause-state κs c =
     c.enter.new.machine c.enter.new.sessions c.enter.new.lender c.drop_closed.new.lender
     (subst (λ i. Entered i c.args.entry c.args.cut (κs.M.Machine.cells c.self.inside.machine) (κs.M.Machine.cells c.enter.new.machine) c.self.inside.sessions c.enter.new.sessions c.enter.new.lender) c.lend-commit.ensures.index c.enter.ensures)
     c.drop_closed.ensures.out c.drop_closed.ensures.closed
-    ∙ ap (λ (s : Seen κs.row.M.Denot). Rattle.log_model.specs.Replay.replay_entry (Rattle.log_model.specs.Hosted.hosted_told κs.M.Machine.decides) c.args.cut (hosted κs.M.Machine.cells s) (c.args.index, c.args.entry)) c.self.view_is
+    ∙ ap (λ (s : Seen κs.row.M.Denot). Rattle.log_model.specs.replay.Replay.replay_entry (Rattle.log_model.specs.hosted.Hosted.hosted_told κs.M.Machine.decides) c.args.cut (hosted κs.M.Machine.cells s) (c.args.index, c.args.entry)) c.self.view_is
 
 pub returns-clause-beside : goal.returns-clause-beside
 returns-clause-beside κs c =

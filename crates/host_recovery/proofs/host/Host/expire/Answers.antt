@@ -2,8 +2,8 @@ use Rattle.std.proofs.Common.{◌≡◌, ◌+◌, IsTrue, List, ap, sym, subst, 
 use Rattle.host_types.specs.Ranges.{IsInRange}
 use Rattle.disk_model.specs.View.{LeavesOnly}
 use Rattle.segment_set.specs.Fits.{IsEmptyWhereNone}
-use Rattle.log_model.specs.Admission.{Item, Admitted, Expired, Expiry, Expires, due_in}
-use Rattle.log_model.specs.Hosted.{hosted_expires}
+use Rattle.log_model.specs.plain.Admission.{Item, Admitted, Expired, Expiry, Expires, due_in}
+use Rattle.log_model.specs.hosted.Hosted.{hosted_expires}
 use Rattle.session_table.specs.Table.{Table}
 use Rattle.host_core.specs.Seen.{hosted}
 use Rattle.host_recovery.specs.Seen.{Seen}

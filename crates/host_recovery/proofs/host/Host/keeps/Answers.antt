@@ -2,10 +2,10 @@ use Rattle.std.proofs.Common.{◌≡◌, List, is_none, IsTrue, ap, subst, ◌�
 use Rattle.disk_model.specs.Image.{Image}
 use Rattle.disk_model.specs.View.{MayLeave}
 use Rattle.segment_set.specs.Fits.{IsEmptyWhereNone}
-use Rattle.log_model.specs.Admission.{Item}
-use Rattle.log_model.specs.Hosted.{Hosted}
-use Rattle.log_model.specs.Layout.{alone, needs_file}
-use Rattle.log_model.proofs.HostedLogs.{whole}
+use Rattle.log_model.specs.plain.Admission.{Item}
+use Rattle.log_model.specs.hosted.Hosted.{Hosted}
+use Rattle.log_model.specs.cleaning.Layout.{alone, needs_file}
+use Rattle.log_model.proofs.hosted.HostedLogs.{whole}
 use Rattle.host_recovery.specs.Seen.{Seen}
 use Rattle.host_recovery.specs.Lying.{LiesAlone}
 use Rattle.host_recovery.specs.Standing.{StandsAt, StandsFor, layout_in}

@@ -3,9 +3,9 @@ use Rattle.host_types.specs.Ranges.{IsInRange}
 use Rattle.host_types.specs.declared.entry.Entry.{Entry}
 use Rattle.disk_model.specs.View.{LeavesOnly}
 use Rattle.segment_set.specs.Fits.{IsEmptyWhereNone}
-use Rattle.log_model.specs.Admission.{Admission, Item, Offered, Admitted, Refused}
-use Rattle.log_model.specs.Hosted.{hosted_admits, hosted_entry, hosted_told}
-use Rattle.log_model.specs.Replay.{replay_entry}
+use Rattle.log_model.specs.plain.Admission.{Admission, Item, Offered, Admitted, Refused}
+use Rattle.log_model.specs.hosted.Hosted.{hosted_admits, hosted_entry, hosted_told}
+use Rattle.log_model.specs.replay.Replay.{replay_entry}
 use Rattle.host_core.specs.declared.deciding.Decided.{Decided}
 use Rattle.host_core.specs.declared.deciding.DecideError.{DecideError}
 use Rattle.host_core.specs.Answers.{Decides_as, IsWhy}

@@ -3,8 +3,8 @@ use Rattle.disk_model.proofs.Moments.{weaker}
 use Rattle.segment_files.specs.Folder.{StandsForPrefix, IsChoice, folder, entries_of}
 use Rattle.segment_set.specs.declared.opening.OpenError.TheVariants.{Damaged as Is_damaged}
 use Rattle.segment_set.specs.Fits.{Fits, IsHeld, parts_in}
-use Rattle.log_model.specs.Hosted.{hosted_stored, hosted_told}
-use Rattle.log_model.specs.Replay.{replayed}
+use Rattle.log_model.specs.hosted.Hosted.{hosted_stored, hosted_told}
+use Rattle.log_model.specs.replay.Replay.{replayed}
 use Rattle.host_core.specs.Seen.{hosted}
 use Rattle.host_recovery.specs.Opening.{HasPrefix, IsInOrder}
 use Rattle.host_recovery.proofs.Laying.{lies_so, none_at_fault}

@@ -7,10 +7,10 @@ use Rattle.disk_model.specs.View.{LeavesAt, LeavesOnly, MayHold}
 use Rattle.segment_set.specs.declared.opening.OpenError.TheVariants.{Damaged as Is_damaged}
 use Rattle.segment_set.specs.Fits.{Fits, IsEmptyWhereNone, IsHeld, parts_in}
 use Rattle.segment_set.specs.Opening.{id_from}
-use Rattle.log_model.specs.Admission.{Item}
-use Rattle.log_model.specs.Hosted.{hosted_stored, hosted_told}
-use Rattle.log_model.specs.Layout.{alone}
-use Rattle.log_model.specs.Replay.{replayed}
+use Rattle.log_model.specs.plain.Admission.{Item}
+use Rattle.log_model.specs.hosted.Hosted.{hosted_stored, hosted_told}
+use Rattle.log_model.specs.cleaning.Layout.{alone}
+use Rattle.log_model.specs.replay.Replay.{replayed}
 use Rattle.host_core.specs.Seen.{hosted}
 use Rattle.host_recovery.specs.Lying.{Lies}
 use Rattle.host_recovery.specs.Opening.{HasPrefix, IsInOrder, OpensAt}

@@ -2,9 +2,9 @@ use Rattle.std.proofs.Common.{ℕ, ◌≡◌, ◌+◌, ◌∷◌, [], ◌++◌, 
 use Rattle.host_types.specs.Ranges.{IsInRange}
 use Rattle.disk_model.specs.View.{LeavesOnly}
 use Rattle.segment_set.specs.Fits.{IsEmptyWhereNone, IsHeld, StandsOrGains, last_of}
-use Rattle.log_model.specs.Hosted.{hosted_told}
-use Rattle.log_model.specs.Layout.{with_entry}
-use Rattle.log_model.specs.Replay.{replay_entry}
+use Rattle.log_model.specs.hosted.Hosted.{hosted_told}
+use Rattle.log_model.specs.cleaning.Layout.{with_entry}
+use Rattle.log_model.specs.replay.Replay.{replay_entry}
 use Rattle.host_core.specs.Seen.{hosted}
 use Rattle.host_recovery.specs.Seen.{Seen}
 use Rattle.host_recovery.specs.Standing.{layout_in, log_in}

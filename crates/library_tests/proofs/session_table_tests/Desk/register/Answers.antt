@@ -2,7 +2,7 @@ use Rattle.std.proofs.Common.{◌+◌, ◌∙◌, ◌++◌, ◌∷◌, [], ap}
 use Rattle.session_table.specs.Places.{cells_of, table_cells}
 use Rattle.commit_lending.specs.Lent.{one_of}
 use Rattle.host_types.specs.Cells.{places_of}
-use Rattle.log_model.specs.Step.{new_session}
+use Rattle.log_model.specs.plain.Step.{new_session}
 use Rattle.library_tests.proofs.session_table_tests.DeskLaws.{stays_sound, register_sound}
 use Rattle.library_tests.proofs.session_table_tests.Desk.register.Goals as goal
 

@@ -2,7 +2,7 @@ use Rattle.std.proofs.Common.{◌≡◌, Some, sym, ap, subst, ◌∙◌}
 use Rattle.std.proofs.lemmas.Result.{IfOk-weaker}
 use Rattle.std.specs.FinMap.Entries.{find}
 use Rattle.std.specs.Ordering.{nat_cmp}
-use Rattle.log_model.specs.Telling.{effect_instance}
+use Rattle.log_model.specs.replay.Telling.{effect_instance}
 use Rattle.resource_catalog.specs.Catalog.{tells_on, catalog_decision}
 use Rattle.resource_catalog.specs.Parts.{Slots, Parts, cells_of, whole_cells}
 use Rattle.resource_catalog.specs.Steps.{tells_at}

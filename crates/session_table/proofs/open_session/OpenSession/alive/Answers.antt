@@ -1,6 +1,6 @@
 use Rattle.std.proofs.Common.{◌+◌, sym, subst, nat_lt, List}
 use Rattle.event_batches.specs.Rising.{AreBelow}
-use Rattle.log_model.specs.Plain.{Kept_reply}
+use Rattle.log_model.specs.plain.Plain.{Kept_reply}
 use Rattle.session_table.specs.Replies.{reply_seqs}
 use Rattle.session_table.proofs.ReplyLists.{below_filter}
 use Rattle.session_table.proofs.open_session.OpenSession.alive.Goals as goal

@@ -1,5 +1,5 @@
 use Rattle.std.proofs.Common.{◌∙◌, ap, sym}
-use Rattle.log_model.specs.Quiet.{greatest_below}
+use Rattle.log_model.specs.plain.Quiet.{greatest_below}
 use Rattle.session_table.specs.Kept.{Kept_session, session_indexes, batch_indexes}
 use Rattle.session_table.specs.Replies.{reply_indexes}
 use Rattle.session_table.proofs.ReplyLists.{quiet_append}

@@ -1,7 +1,7 @@
 use Rattle.std.proofs.Common.{◌∙◌, ◌==◌, ℕ, ap, sym, Some, None, eq-eqb, eqb-true}
 use Rattle.std.proofs.lemmas.Bool.{false_from_ne_true}
 use Rattle.std.specs.Option.{option_map, option_copied}
-use Rattle.log_model.specs.Plain.{Kept_reply}
+use Rattle.log_model.specs.plain.Plain.{Kept_reply}
 use Rattle.session_table.specs.Replies.{Kept_replies, with_seq}
 use Rattle.session_table.specs.declared.replies.KeptReply.{KeptReply}
 use Rattle.session_table.proofs.ReplyLists.{exact_there, exact_other, exact_none, reply_found}

@@ -2,7 +2,7 @@ use Rattle.std.proofs.Common.{◌∙◌, ap, sym, subst, nat_lt, map, List}
 use Rattle.std.specs.List.{filter}
 use Rattle.event_batches.specs.Rising.{Rises}
 use Rattle.event_batches.proofs.RisingLists.{filter_through}
-use Rattle.log_model.specs.Plain.{Kept_reply}
+use Rattle.log_model.specs.plain.Plain.{Kept_reply}
 use Rattle.session_table.specs.Replies.{Kept_replies}
 use Rattle.session_table.specs.RepliesInside.{as_reply}
 use Rattle.session_table.specs.declared.replies.KeptReply.{KeptReply}

@@ -6,8 +6,8 @@ use Rattle.slab.specs.Slab.{with_value}
 use Rattle.slab.proofs.SlabLemmas.{Updates-with_value}
 use Rattle.host_types.specs.Cells.{places_of}
 use Rattle.machine.specs.Holding.{held_by}
-use Rattle.log_model.specs.Plain.{Session}
-use Rattle.log_model.specs.Step.{changed}
+use Rattle.log_model.specs.plain.Plain.{Session}
+use Rattle.log_model.specs.plain.Step.{changed}
 use Rattle.session_table.specs.Table.{Table, KeepsRoom, alive_at, beside_changed, beside_alive}
 use Rattle.session_table.specs.Places.{cells_of, table_cells}
 use Rattle.session_table.specs.Rows.{beside_of, seats}

@@ -1,5 +1,5 @@
 use Rattle.std.proofs.Common.{◌≡◌, ◌∙◌, ap, subst, sym, arith, IfErr, is_ok}
-use Rattle.log_model.specs.Plain.{Session}
+use Rattle.log_model.specs.plain.Plain.{Session}
 use Rattle.session_table.specs.Table.{Table}
 use Rattle.session_table.specs.Deadlines.{deadline}
 use Rattle.session_table.proofs.Tables.{changed_in, in_order, spare_stays, keeps_room, open_in, shows_in, slot_filled, beside_if, cells_if}

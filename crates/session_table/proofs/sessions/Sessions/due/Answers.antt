@@ -1,5 +1,5 @@
 use Rattle.std.proofs.Common.{◌∙◌, Some, ap, sym, arith}
-use Rattle.log_model.specs.Admission.{due}
+use Rattle.log_model.specs.plain.Admission.{due}
 use Rattle.session_table.specs.Table.{Table, as_state}
 use Rattle.session_table.proofs.Walks.{row_cut, filled_at, due_skipped, due_here, nobody_due, nobody_yet}
 use Rattle.session_table.proofs.sessions.Sessions.due.Goals as goal

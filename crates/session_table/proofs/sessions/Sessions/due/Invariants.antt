@@ -1,7 +1,7 @@
 -- nobody before this place is due
 use Rattle.std.proofs.Common.{◌≡◌, drop}
 use Rattle.std.specs.List.{find}
-use Rattle.log_model.specs.Admission.{is_due}
+use Rattle.log_model.specs.plain.Admission.{is_due}
 use Rattle.session_table.proofs.Tables.{shown_sessions}
 use Rattle.session_table.proofs.sessions.Sessions.due.Given as goal
 

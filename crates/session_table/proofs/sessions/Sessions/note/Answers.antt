@@ -1,7 +1,7 @@
 use Rattle.std.proofs.Common.{◌∙◌, ap, sym, arith}
-use Rattle.log_model.specs.Plain.{Session}
-use Rattle.log_model.specs.Step.{changed}
-use Rattle.log_model.specs.Replay.{noted}
+use Rattle.log_model.specs.plain.Plain.{Session}
+use Rattle.log_model.specs.plain.Step.{changed}
+use Rattle.log_model.specs.replay.Replay.{noted}
 use Rattle.session_table.specs.Table.{Table}
 use Rattle.session_table.specs.Deadlines.{deadline}
 use Rattle.session_table.proofs.Tables.{changed_in, in_order, spare_stays, keeps_room, open_in, slot_filled}

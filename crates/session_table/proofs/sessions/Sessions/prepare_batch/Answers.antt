@@ -1,5 +1,5 @@
 use Rattle.std.proofs.Common.{ap, arith}
-use Rattle.log_model.specs.Plain.{Session}
+use Rattle.log_model.specs.plain.Plain.{Session}
 use Rattle.std.proofs.lemmas.Result.{on_ok_weaker}
 use Rattle.session_table.specs.Deadlines.{deadline}
 use Rattle.session_table.proofs.Tables.{changed_in, in_order, spare_stays, keeps_room, open_in, slot_filled, same_in}

@@ -1,6 +1,6 @@
 use Rattle.std.proofs.Common.{◌∙◌, ap, subst, sym, arith}
-use Rattle.log_model.specs.Plain.{Session}
-use Rattle.log_model.specs.Step.{changed}
+use Rattle.log_model.specs.plain.Plain.{Session}
+use Rattle.log_model.specs.plain.Step.{changed}
 use Rattle.session_table.specs.Table.{Table, with_batch}
 use Rattle.session_table.specs.Deadlines.{deadline}
 use Rattle.session_table.proofs.Tables.{changed_in, in_order, spare_stays, open_in, shows_in, slot_filled, replies_beside, batches_beside}

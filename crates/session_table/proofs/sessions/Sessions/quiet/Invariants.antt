@@ -1,7 +1,7 @@
 -- it is quiet up to here for the sessions from this place on
 use Rattle.std.proofs.Common.{◌≡◌, ◌≤◌, drop}
 use Rattle.std.specs.VecDeque.{deque_len}
-use Rattle.log_model.specs.Quiet.{kept_indexes, greatest_below}
+use Rattle.log_model.specs.plain.Quiet.{kept_indexes, greatest_below}
 use Rattle.session_table.specs.Table.{as_state}
 use Rattle.session_table.proofs.Tables.{shown_sessions}
 use Rattle.session_table.proofs.sessions.Sessions.quiet.Given as goal

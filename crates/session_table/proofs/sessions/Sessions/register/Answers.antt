@@ -3,8 +3,8 @@ use Rattle.std.specs.List.{find}
 use Rattle.std.specs.Option.{option_map_or}
 use Rattle.std.specs.VecDeque.{deque_len, deque_capacity}
 use Rattle.slab.specs.Slab.{slab_len}
-use Rattle.log_model.specs.Plain.{Session}
-use Rattle.log_model.specs.Step.{new_session}
+use Rattle.log_model.specs.plain.Plain.{Session}
+use Rattle.log_model.specs.plain.Step.{new_session}
 use Rattle.event_batches.specs.Rising.{Rises, AreBelow}
 use Rattle.event_batches.proofs.RisingLists.{map_push}
 use Rattle.session_table.specs.Places.{cells_of}

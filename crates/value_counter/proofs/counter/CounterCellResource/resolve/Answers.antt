@@ -4,9 +4,9 @@ use Rattle.host_types.specs.declared.entry.Content.{Content}
 use Rattle.host_types.specs.declared.entry.Kind.TheVariants.{Counter}
 use Rattle.host_types.specs.Cells.{Cell_at}
 use Rattle.machine.specs.Answers.{Resolves}
-use Rattle.log_model.specs.Rows.{counter_row}
-use Rattle.log_model.specs.Shows.{content_at, number_of}
-use Rattle.log_model.specs.Deciding.{chosen, call_of}
+use Rattle.log_model.specs.plain.Rows.{counter_row}
+use Rattle.log_model.specs.kinds.Shows.{content_at, number_of}
+use Rattle.log_model.specs.kinds.Deciding.{chosen, call_of}
 use Rattle.value_counter.specs.One.{One_cell, one_cells}
 use Rattle.value_counter.proofs.OneLaws.{content_here}
 use Rattle.value_counter.proofs.counter.CounterCellResource.resolve.Goals as goal

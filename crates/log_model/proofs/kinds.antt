@@ -1,0 +1,12 @@
+-- The laws of the nine kinds.
+pub mod AsPlain
+pub mod Bridges
+pub mod Gather
+pub mod Keyed
+pub mod KindLaws
+pub mod Readings
+pub mod RowLaws
+pub mod RowStores
+pub mod ShownCloses
+pub mod ShownResources
+pub mod ShownRows

@@ -1,0 +1,5 @@
+-- The laws of batches and clients.
+pub mod Chains
+pub mod Clients
+pub mod Moves
+pub mod Points

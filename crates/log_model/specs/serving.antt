@@ -1,0 +1,3 @@
+-- The batches of a session, and what a client takes of them.
+pub mod Batches
+pub mod Serving
