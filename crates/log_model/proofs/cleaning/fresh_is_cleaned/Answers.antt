@@ -1,5 +1,0 @@
-use Rattle.log_model.proofs.cleaning.Appends.{fresh}
-use Rattle.log_model.proofs.cleaning.fresh_is_cleaned.Goals as goal
-
-pub returns : goal.returns
-returns c = λ all quiet. fresh all quiet

@@ -1,5 +1,0 @@
-use Rattle.log_model.proofs.cleaning.Markings.{marks_follow as lemma}
-use Rattle.log_model.proofs.cleaning.marks_follow.Goals as goal
-
-pub returns : goal.returns
-returns c = λ entries i e j. lemma entries i e j

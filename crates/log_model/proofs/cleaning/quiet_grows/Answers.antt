@@ -1,5 +1,0 @@
-use Rattle.log_model.proofs.cleaning.Growth.{quiet_grows as lemma}
-use Rattle.log_model.proofs.cleaning.quiet_grows.Goals as goal
-
-pub returns : goal.returns
-returns c = λ items more. lemma items more

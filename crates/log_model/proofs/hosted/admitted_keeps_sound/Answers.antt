@@ -1,5 +1,0 @@
-use Rattle.log_model.proofs.hosted.OfMachines.{step_sound}
-use Rattle.log_model.proofs.hosted.admitted_keeps_sound.Goals as goal
-
-pub returns : goal.returns
-returns c = λ d s item lawful h fit ok. step_sound d s item lawful h fit ok

@@ -1,5 +1,0 @@
-use Rattle.log_model.proofs.hosted.HostedLogs.{alives_follow}
-use Rattle.log_model.proofs.hosted.alives_follow.Goals as goal
-
-pub returns : goal.returns
-returns c = λ s i e id h. alives_follow s i e id h

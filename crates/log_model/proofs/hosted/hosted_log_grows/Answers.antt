@@ -1,5 +1,0 @@
-use Rattle.log_model.proofs.hosted.HostedLogs.{grown}
-use Rattle.log_model.proofs.hosted.hosted_log_grows.Goals as goal
-
-pub returns : goal.returns
-returns c = λ d items item. grown d items item

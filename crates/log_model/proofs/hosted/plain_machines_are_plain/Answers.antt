@@ -1,5 +1,0 @@
-use Rattle.log_model.proofs.hosted.PlainMachines.{plain_machine}
-use Rattle.log_model.proofs.hosted.plain_machines_are_plain.Goals as goal
-
-pub returns : goal.returns
-returns c = λ d items plain. plain_machine d plain items

@@ -1,5 +1,0 @@
-use Rattle.log_model.proofs.hosted.SessionPlaces.{session_places}
-use Rattle.log_model.proofs.hosted.session_places_are.Goals as goal
-
-pub returns : goal.returns
-returns c = λ s index h. session_places s index h

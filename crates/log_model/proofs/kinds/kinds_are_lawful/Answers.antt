@@ -1,5 +1,0 @@
-use Rattle.log_model.proofs.kinds.KindLaws.{kind_lawful}
-use Rattle.log_model.proofs.kinds.kinds_are_lawful.Goals as goal
-
-pub returns : goal.returns
-returns c = kind_lawful

@@ -1,5 +1,0 @@
-use Rattle.log_model.proofs.kinds.AsPlain.{goes_on_to_show}
-use Rattle.log_model.proofs.kinds.kinds_keep_showing.Goals as goal
-
-pub returns : goal.returns
-returns c = goes_on_to_show

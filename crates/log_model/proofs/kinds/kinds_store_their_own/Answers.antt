@@ -1,5 +1,0 @@
-use Rattle.log_model.proofs.kinds.RowStores.{kind_stores}
-use Rattle.log_model.proofs.kinds.kinds_store_their_own.Goals as goal
-
-pub returns : goal.returns
-returns c = kind_stores

@@ -1,5 +1,0 @@
-use Rattle.log_model.proofs.hosted.OfMachines.{step_is_replay}
-use Rattle.log_model.proofs.replay.admitted_is_replayed.Goals as goal
-
-pub returns : goal.returns
-returns c = λ d s item h acks ok. step_is_replay d s item h acks ok

@@ -1,5 +1,0 @@
-use Rattle.log_model.proofs.replay.Shown.{cells_tell}
-use Rattle.log_model.proofs.replay.cells_tell.Goals as goal
-
-pub returns : goal.returns
-returns c = λ items log. cells_tell items log

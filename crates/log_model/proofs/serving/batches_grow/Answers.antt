@@ -1,5 +1,0 @@
-use Rattle.log_model.proofs.serving.Chains.{grow}
-use Rattle.log_model.proofs.serving.batches_grow.Goals as goal
-
-pub returns : goal.returns
-returns c = λ items more id. grow id items more

@@ -1,5 +1,0 @@
-use Rattle.log_model.proofs.serving.Chains.{keeps_the_rest}
-use Rattle.log_model.proofs.serving.keeps_the_rest.Goals as goal
-
-pub returns : goal.returns
-returns c = λ items id x log there. keeps_the_rest id items x log there
