@@ -1,4 +1,6 @@
 // A disk in memory that tears, and that fails at the calls that it is told to fail at.
+#![tactic(auto, using(crate::proofs::Torn::history_stands))]
+
 ghost use Rattle.std.specs.Prelude.{◌≡◌, ◌++◌, ◌∷◌, [], ℕ, OnOk, OnErr, true, None};
 ghost use Rattle.disk_model.specs.Image.{IsFileId, Place, place};
 ghost use Rattle.disk_model.specs.View.{MayLeave};

@@ -1,4 +1,6 @@
 // A disk in memory that settles each call at once and never fails. It keeps each version of a file.
+#![tactic(auto, using(crate::proofs::Settled::sure_stands))]
+
 ghost use Rattle.std.specs.Prelude.{◌≡◌, ◌≤◌, ℕ, OnOk, OnErr, length, true, None};
 ghost use Rattle.disk_model.specs.Image.{IsFileId, Place, place};
 ghost use Rattle.disk_memory.specs.Placed.{EachSettled, Places};
