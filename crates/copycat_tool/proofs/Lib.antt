@@ -1,6 +1,8 @@
 mod Examples
 pub mod CallLemmas
 pub mod ExpiringLemmas
+pub mod Following
+pub mod Keeping
 pub mod LineLemmas
 pub mod LogLemmas
 pub mod LoopLemmas
@@ -12,3 +14,4 @@ pub mod ReportLemmas
 pub mod RunLemmas
 pub mod StoredBuilt
 pub mod TurnLemmas
+pub mod Writing

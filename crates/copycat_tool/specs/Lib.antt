@@ -1,5 +1,6 @@
 pub mod Calls
 pub mod Closing
+pub mod Endings
 pub mod Logs
 pub mod Programs
 pub mod Reading

@@ -12,7 +12,6 @@ mod program;
 mod reader;
 mod texts;
 mod turns;
-mod unopened;
 mod words;
 
 pub use closing::Status;
