@@ -8,3 +8,4 @@ mod names;
 mod steps;
 
 pub use disk::FileDisk;
+pub use names::files_are_of_one_log;

@@ -71,3 +71,11 @@ pub(crate) fn id_of(name: &LogName, file: &str) -> Option<FileId>
         Err(_) => None,
     }
 }
+
+/// A law: no file is of two logs, since no log's name has the '-' that stands behind it.
+pub fn files_are_of_one_log(one: &LogName, other: &LogName)
+    ensures { (i j : Id) → file_name one.now i ≡ file_name other.now j → one.now ≡ other.now }
+{
+    // Both are names.
+    let _lengths = (one.bytes().len(), other.bytes().len());
+}

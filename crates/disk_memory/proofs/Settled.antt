@@ -67,7 +67,7 @@ module _ (vs ws : List Step) (v : Step) (p : Place) (one_more : ws ≡ vs ++ v �
     either = inr (there vs ws v p one_more at ∙ is);
     done = there vs ws v p one_more at ∙ is;
     bytes_left = λ q c now. ⊎_elim (λ here. let c_is : c ≡ [] = cc (now, here.1, is) in inr (here.0, c_is)) (λ kept. inl (sym kept ∙ now)) (elsewhere vs ws v p one_more at q);
-    else_left = λ q o now. ⊎_elim (λ here. absurd (cc (now.1, here.1, is))) (λ kept. (now.0, sym kept ∙ now.1)) (elsewhere vs ws v p one_more at q);
+    else_left = λ q o now. ⊎_elim (λ here. absurd (cc (now.1, here.1, is))) (λ kept. inl (now.0, sym kept ∙ now.1)) (elsewhere vs ws v p one_more at q);
     no_memory = λ none. absurd (cc none);
     time = elapses;
   }

@@ -135,8 +135,8 @@ module _ (v : View) (name : List ℕ) (id : FileId) (named : IsFileId id) (sound
             (elsewhere v s p refl sound q))
             held.1;
         else_left = λ q o held. ⊎_elim
-            (λ left. left)
-            (λ none. ⊎_elim (λ here. absurd (cc (none.1, here.1, is))) (λ kept. absent_now v s p refl sound q o none.0 (sym kept ∙ none.1)) (elsewhere v s p refl sound q))
+            (λ left. inl left)
+            (λ none. ⊎_elim (λ here. absurd (cc (none.1, here.1, is))) (λ kept. inl (absent_now v s p refl sound q o none.0 (sym kept ∙ none.1))) (elsewhere v s p refl sound q))
             held;
         no_memory = λ none. absurd (cc none);
         time = elapses v s p refl sound;

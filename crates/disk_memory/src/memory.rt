@@ -1,14 +1,15 @@
 // A disk in memory that tears, and that fails at the calls that it is told to fail at.
 #![tactic(auto, using(crate::proofs::Torn::history_stands))]
 
-ghost use Rattle.std.specs.Prelude.{◌≡◌, ◌++◌, ◌∷◌, [], ℕ, OnOk, OnErr, true, None};
+ghost use Rattle.std.specs.Prelude.{◌≡◌, ◌≤◌, ◌++◌, ◌∷◌, [], ℕ, List, length, All, IfOk, OnOk, OnErr, true, None};
+ghost use Rattle.disk_model.specs.Calls.{Looks, Lists, ReadsInto, Writes, Creates, Removes, Syncs};
 ghost use Rattle.disk_model.specs.Image.{IsFileId, Place, place};
-ghost use Rattle.disk_model.specs.View.{MayLeave};
+ghost use Rattle.disk_model.specs.View.{HasCause, IsListed, MayLeave, Reaches, Reads};
 ghost use Rattle.disk_memory.specs.History.{history};
 ghost use Rattle.disk_memory.specs.Outcomes.{left};
 ghost use Rattle.disk_memory.specs.Placed.{EachSettled, Places};
 ghost use Rattle.disk_memory.specs.Plan.{calls_limit, with_fail, with_last, without_fails};
-ghost use Rattle.disk_memory.specs.Plans.{past, plan_of};
+ghost use Rattle.disk_memory.specs.Plans.{Counts, past, plan_of};
 ghost use Rattle.disk_memory.specs.Torn.{sound};
 
 use crate::bytes::{copy_from, overwritten};
@@ -113,12 +114,24 @@ impl Disk for MemoryDisk {
 
     ghost sound = { λ d tells. sound (past d) };
 
-    fn list(&mut self, name: &LogName) -> Result<Vec<FileId>, DiskFault> {
+    fn list(&mut self, name: &LogName) -> Result<Vec<FileId>, DiskFault>
+        ensures ids { IfOk result (λ ids. All IsFileId ids.items) }
+        ensures lists { IfOk result (λ ids. Lists (history (past self.old)) name.now ids.items) }
+        ensures told { Looks (history (past self.old)) (history (past self.new)) }
+        ensures cause { HasCause (plan_of self.old).faults (plan_of self.new).faults result }
+        ensures counted { Counts self.old self.new result }
+    {
         self.schedule.begin()?;
         Ok(ids_of(self.alloc, &self.steps, name)?)
     }
 
-    fn create(&mut self, name: &LogName, id: FileId) -> Result<(), DiskFault> {
+    fn create(&mut self, name: &LogName, id: FileId) -> Result<(), DiskFault>
+        requires id { IsFileId id }
+        requires fresh { (history (past self.old)).reading (place name.now id) ≡ None }
+        ensures told { Creates (history (past self.old)) (history (past self.new)) (place name.now id) result }
+        ensures cause { HasCause (plan_of self.old).faults (plan_of self.new).faults result }
+        ensures counted { Counts self.old self.new result }
+    {
         self.schedule.begin()?;
         let bytes = Some(Vec::new(self.alloc));
         self.steps.push(Step {
@@ -130,7 +143,14 @@ impl Disk for MemoryDisk {
         Ok(())
     }
 
-    fn length(&mut self, name: &LogName, id: FileId) -> Result<u64, DiskFault> {
+    fn length(&mut self, name: &LogName, id: FileId) -> Result<u64, DiskFault>
+        requires id { IsFileId id }
+        requires listed { IsListed (history (past self.old)) (place name.now id) }
+        ensures length { (bytes : List ℕ) → Reads (history (past self.old)) (place name.now id) bytes → IfOk result (λ n. n ≡ length bytes) }
+        ensures told { Looks (history (past self.old)) (history (past self.new)) }
+        ensures cause { HasCause (plan_of self.old).faults (plan_of self.new).faults result }
+        ensures counted { Counts self.old self.new result }
+    {
         self.schedule.begin()?;
         match held_at(&self.steps, name, id) {
             None => unreachable!(),
@@ -144,7 +164,15 @@ impl Disk for MemoryDisk {
         id: FileId,
         at: u64,
         buffer: &mut [u8],
-    ) -> Result<usize, DiskFault> {
+    ) -> Result<usize, DiskFault>
+        requires id { IsFileId id }
+        requires listed { IsListed (history (past self.old)) (place name.now id) }
+        ensures within { IfOk result (λ n. n ≤ length buffer.old) }
+        ensures bytes { (bytes : List ℕ) → Reads (history (past self.old)) (place name.now id) bytes → IfOk result (λ n. ReadsInto bytes at buffer.old buffer.new n) }
+        ensures told { Looks (history (past self.old)) (history (past self.new)) }
+        ensures cause { HasCause (plan_of self.old).faults (plan_of self.new).faults result }
+        ensures counted { Counts self.old self.new result }
+    {
         self.schedule.begin()?;
         match held_at(&self.steps, name, id) {
             None => unreachable!(),
@@ -158,7 +186,13 @@ impl Disk for MemoryDisk {
         id: FileId,
         at: u64,
         bytes: &[u8],
-    ) -> Result<(), DiskFault> {
+    ) -> Result<(), DiskFault>
+        requires id { IsFileId id }
+        requires reaches { Reaches (history (past self.old)) (place name.now id) at }
+        ensures told { Writes (history (past self.old)) (history (past self.new)) (place name.now id) at bytes.now result }
+        ensures cause { HasCause (plan_of self.old).faults (plan_of self.new).faults result }
+        ensures counted { Counts self.old self.new result }
+    {
         self.schedule.begin()?;
         let next = match held_at(&self.steps, name, id) {
             None => unreachable!(),
@@ -173,7 +207,13 @@ impl Disk for MemoryDisk {
         Ok(())
     }
 
-    fn sync(&mut self, name: &LogName, id: FileId) -> Result<(), DiskFault> {
+    fn sync(&mut self, name: &LogName, id: FileId) -> Result<(), DiskFault>
+        requires id { IsFileId id }
+        requires listed { IsListed (history (past self.old)) (place name.now id) }
+        ensures told { Syncs (history (past self.old)) (history (past self.new)) (place name.now id) result }
+        ensures cause { HasCause (plan_of self.old).faults (plan_of self.new).faults result }
+        ensures counted { Counts self.old self.new result }
+    {
         self.schedule.begin()?;
         let bytes = match held_at(&self.steps, name, id) {
             None => unreachable!(),
@@ -188,7 +228,13 @@ impl Disk for MemoryDisk {
         Ok(())
     }
 
-    fn remove(&mut self, name: &LogName, id: FileId) -> Result<(), DiskFault> {
+    fn remove(&mut self, name: &LogName, id: FileId) -> Result<(), DiskFault>
+        requires id { IsFileId id }
+        requires listed { IsListed (history (past self.old)) (place name.now id) }
+        ensures told { Removes (history (past self.old)) (history (past self.new)) (place name.now id) result }
+        ensures cause { HasCause (plan_of self.old).faults (plan_of self.new).faults result }
+        ensures counted { Counts self.old self.new result }
+    {
         self.schedule.begin()?;
         self.steps.push(Step {
             name: *name,

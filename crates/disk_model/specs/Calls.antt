@@ -37,7 +37,8 @@ pub record Creates {T : Type 0} (old new : View) (p : Place) (result : Result T 
   pub either : (new.reading p ≡ None) ⊎ Reads new p []
   pub done : OnOk result (Reads new p [])
   pub bytes_left : (q : Place) (c : List ℕ) → new.bytes_left q c → old.bytes_left q c ⊎ ((q ≡ p) × (c ≡ []))
-  pub else_left : (q : Place) (o : Option (List ℕ)) → new.else_left q o → old.else_left q o
+  -- where it failed it may have happened: an empty file may be there after a crash, also where none is listed
+  pub else_left : (q : Place) (o : Option (List ℕ)) → new.else_left q o → old.else_left q o ⊎ ((q ≡ p) × (o ≡ Some []))
   pub no_memory : IsErrOf result NoMemory → Stays old new
   pub time : Elapses old new
 

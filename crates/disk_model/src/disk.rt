@@ -43,7 +43,8 @@ impl<T: Drop> From<AllocFailed<T>> for DiskFault {
 ///   the one at the last sync to the greatest since. Bytes outside of these ranges stay.
 /// - Each creation and each removal since the last sync of any file that succeeded may or may not
 ///   have happened, each by itself. A file that is created under the name of a removed one is
-///   another file: what is written to it changes nothing of the old one.
+///   another file: what is written to it changes nothing of the old one. One that fails may have
+///   happened, also where the file isn't listed then.
 /// - A sync that succeeds settles the bytes of its file, and all creations and removals.
 ///
 /// Each call answers `Failed` only where the disk's count of faults rose in that call.

@@ -1,5 +1,6 @@
 -- Which bytes are the name of a log.
-use Rattle.std.specs.Prelude.{◌≡◌, ℕ, Bool, not, ◌&&◌, ◌||◌, nat_le, nat_lt, if◌then◌else◌, List, [], ◌∷◌, length, Option, Some, None, Result, Ok, Err, position}
+use Rattle.std.specs.Prelude.{◌≤◌, ℕ, Bool, IsTrue, not, ◌&&◌, ◌||◌, nat_le, nat_lt, if◌then◌else◌, List, [], ◌∷◌, length, Option, Some, None, Result, Ok, Err, position}
+use Rattle.std.specs.List.{list_all}
 use Rattle.host_types.specs.declared.log_name.NameFault.{NameFault}
 use Rattle.host_types.specs.declared.log_name.NameFault.TheVariants.{Empty, TooLong, BadByte}
 
@@ -20,6 +21,6 @@ abbrev pub named : List ℕ → Result (List ℕ) NameFault
 named [] = Err Empty
 named (byte ∷ bytes) = if nat_lt 32 (length (byte ∷ bytes)) then Err TooLong else without_bad (byte ∷ bytes) (first_bad (byte ∷ bytes))
 
--- these bytes are a name
+-- 1 to 32 such bytes
 abbrev pub IsName : List ℕ → Type 0
-IsName bytes = named bytes ≡ Ok bytes
+IsName bytes = (1 ≤ length bytes) × (length bytes ≤ 32) × IsTrue (list_all is_name_byte bytes)

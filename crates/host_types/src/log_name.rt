@@ -1,6 +1,6 @@
 // The name of a log. Contracts see it as its bytes.
 ghost use Rattle.std.specs.Prelude.{◌≡◌};
-ghost use Rattle.host_types.specs.Name.{first_bad, named};
+ghost use Rattle.host_types.specs.Name.{IsName, first_bad, named};
 
 use std::marker::Model;
 
@@ -29,15 +29,16 @@ impl Model for LogName {
 
     ghost Value = { List ℕ };
 
+    ghost use Rattle.host_types.specs.Name.{IsName};
     ghost use Rattle.host_types.specs.Padding.{IsPadded, padded, padded_back};
 
     ghost view = { λ n. take n.len n.bytes };
 
-    ghost invariant = { IsPadded };
+    ghost invariant = { λ n. IsPadded n × IsName (take n.len n.bytes) };
 
     ghost inverse = { padded };
 
-    ghost inverse_ok = { padded_back };
+    ghost inverse_ok = { λ n is. padded_back n is.0 };
 }
 
 /// The place of the first byte that a name may not have.
@@ -71,7 +72,8 @@ impl LogName {
 
     /// Its bytes.
     pub fn bytes(&self) -> &[u8]
-        ensures { result.now ≡ self.now }
+        ensures bytes { result.now ≡ self.now }
+        ensures name { IsName result.now }
     {
         &self.bytes[..self.len]
     }

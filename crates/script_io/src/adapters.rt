@@ -10,6 +10,7 @@ use std::io::{self, ErrorKind, Read, Write};
 
 /// A reader as a source. It tells what the reader's type tells, which for files, terminals and
 /// pipes is nothing. Each error counts as a fault, but a read that a signal interrupts is done again.
+/// The count stands still at 2^64 - 1: an error after so many is answered `Failed` and not counted.
 #[derive(Drop)]
 pub struct ReadSource<R> {
     reader: R,
@@ -83,7 +84,8 @@ impl<R: Read> Source for ReadSource<R> {
 
 /// A writer as a sink. It tells what the writer's type tells, which for files, terminals and pipes
 /// is nothing. Each error counts as a fault, but a write that a signal interrupts is done again, and
-/// so does a writer that takes nothing.
+/// so does a writer that takes nothing. The count stands still at 2^64 - 1: an error after so many is
+/// answered `Failed` and not counted.
 ///
 /// After each write the writer is flushed, so that what was taken has left the program. Bytes that
 /// the writer took aren't taken back where this flush fails: it counts as a fault at once, the write

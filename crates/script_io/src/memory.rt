@@ -1,7 +1,7 @@
 // A source and a sink in memory, which fail at calls of given numbers.
-ghost use Rattle.std.specs.Prelude.{◌≡◌, ◌<◌, ◌≤◌, ◌↔◌, ◌++◌, ◌+◌, ◌-◌, ◌^◌, min, ℕ, List, [], Some, length, take, IfOk, IsErr, OnOk, OnErr, Contains};
+ghost use Rattle.std.specs.Prelude.{◌≡◌, ◌<◌, ◌≤◌, ◌↔◌, ◌++◌, ℕ, List, [], Some, length, take, IfOk, IsErr, OnErr};
 ghost use Rattle.script_io.specs.Streams.{HasCause, Takes};
-ghost use Rattle.script_io.specs.Memory.{next_call};
+ghost use Rattle.script_io.specs.Memory.{Counts, IsDue};
 
 use crate::sink::Sink;
 use crate::source::{Failed, Source};
@@ -10,9 +10,9 @@ use std::marker::Model;
 
 /// A source of the bytes that it holds.
 ///
-/// It fails exactly at the calls whose numbers it was given, counted from 1; the count of calls
-/// stands at 2^64 - 1. Contracts see the bytes that are left, the numbers, and how many calls and
-/// faults there were.
+/// It fails exactly at the calls whose numbers it was given, counted from 1, and counts each of these
+/// faults. A call after 2^64 - 1 others has no number, and doesn't fail. Contracts see the bytes that
+/// are left, the numbers, and how many calls and faults there were.
 #[derive(Drop)]
 pub struct MemorySource {
     bytes: Vec<u8>,
@@ -23,12 +23,14 @@ pub struct MemorySource {
 }
 
 impl Model for MemorySource {
-    ghost use Rattle.std.specs.Prelude.{drop};
+    ghost use Rattle.std.specs.Prelude.{◌≤◌, drop};
     ghost use Rattle.script_io.specs.Memory.{Stream};
 
     ghost Value = { Stream };
 
     ghost view = { λ s. record { bytes = drop s.at s.bytes.items; fails = s.fails.items; calls = s.calls; faults = s.faults } };
+
+    ghost invariant = { λ s. s.faults ≤ s.calls };
 }
 
 impl MemorySource {
@@ -56,16 +58,16 @@ impl Source for MemorySource {
         ensures taken { (bytes : List ℕ) → Some self.old.bytes ≡ Some bytes → IfOk result (λ n. Takes bytes (Some self.new.bytes) buffer.new n) }
         ensures kept { (bytes : List ℕ) → Some self.old.bytes ≡ Some bytes → OnErr result (Some self.new.bytes ≡ Some bytes) }
         ensures cause { HasCause self.old.faults self.new.faults result }
-        ensures fails { IsErr result ↔ Contains self.old.fails (next_call self.old) }
-        ensures counted { OnErr result (self.new.faults ≡ min (self.old.faults + 1) (2 ^ 64 - 1)) }
-        ensures uncounted { OnOk result (self.new.faults ≡ self.old.faults) }
-        ensures calls { self.new.calls ≡ next_call self.old }
-        ensures numbers { self.new.fails ≡ self.old.fails }
+        ensures due { IsErr result ↔ IsDue self.old }
+        ensures counted { Counts self.old self.new result }
+        ensures strict { OnErr result (self.old.faults < self.new.faults) }
     {
-        self.calls = self.calls.saturating_add(1);
-        if self.fails.contains(&self.calls) {
-            self.faults = self.faults.saturating_add(1);
-            return Err(Failed);
+        if self.calls < u64::MAX {
+            self.calls += 1;
+            if self.fails.contains(&self.calls) {
+                self.faults += 1;
+                return Err(Failed);
+            }
         }
         if self.at >= self.bytes.len() {
             return Ok(0);
@@ -79,9 +81,10 @@ impl Source for MemorySource {
 
 /// A sink that keeps what it takes.
 ///
-/// It fails at the calls whose numbers it was given, counted from 1, and where it finds no memory.
-/// The count of calls stands at 2^64 - 1. Contracts see the bytes that were written, the numbers,
-/// and how many calls and faults there were.
+/// It fails at the calls whose numbers it was given, counted from 1, and where it finds no memory,
+/// and counts each of these faults. A call after 2^64 - 1 others has no number, and fails for want of
+/// memory alone; whether that is counted isn't said. Contracts see the bytes that were written, the
+/// numbers, and how many calls and faults there were.
 #[derive(Drop)]
 pub struct MemorySink {
     bytes: Vec<u8>,
@@ -91,11 +94,14 @@ pub struct MemorySink {
 }
 
 impl Model for MemorySink {
+    ghost use Rattle.std.specs.Prelude.{◌≤◌};
     ghost use Rattle.script_io.specs.Memory.{Stream};
 
     ghost Value = { Stream };
 
     ghost view = { λ s. record { bytes = s.bytes.items; fails = s.fails.items; calls = s.calls; faults = s.faults } };
+
+    ghost invariant = { λ s. s.faults ≤ s.calls };
 }
 
 impl MemorySink {
@@ -131,14 +137,15 @@ impl Sink for MemorySink {
         ensures taken { (before : List ℕ) → Some self.old.bytes ≡ Some before → IfOk result (λ n. Some self.new.bytes ≡ Some (before ++ take n bytes.now)) }
         ensures kept { (before : List ℕ) → Some self.old.bytes ≡ Some before → OnErr result (Some self.new.bytes ≡ Some before) }
         ensures cause { HasCause self.old.faults self.new.faults result }
-        ensures fails { Contains self.old.fails (next_call self.old) → IsErr result }
-        ensures counted { OnErr result (self.new.faults ≡ min (self.old.faults + 1) (2 ^ 64 - 1)) }
-        ensures uncounted { OnOk result (self.new.faults ≡ self.old.faults) }
-        ensures calls { self.new.calls ≡ next_call self.old }
-        ensures numbers { self.new.fails ≡ self.old.fails }
+        ensures due { IsDue self.old → IsErr result }
+        ensures counted { Counts self.old self.new result }
     {
-        self.calls = self.calls.saturating_add(1);
-        if !self.fails.contains(&self.calls) && self.bytes.extend_from_slice(bytes).is_ok() {
+        let mut due = false;
+        if self.calls < u64::MAX {
+            self.calls += 1;
+            due = self.fails.contains(&self.calls);
+        }
+        if !due && self.bytes.extend_from_slice(bytes).is_ok() {
             return Ok(bytes.len());
         }
         self.faults = self.faults.saturating_add(1);

@@ -41,9 +41,12 @@ module _ {T : Type 0} (v0 a : View) (p : Place) (none : v0.reading p ≡ None) (
   P c = (q : Place) → OrClosed v0 p q (c q)
 
   created_left : (q : Place) (o : Option (List ℕ)) → MayHold a q o → OrClosed v0 p q o
-  created_left q None held = inl (creates.else_left q None held)
+  created_left q None held = ⊎_elim (λ was. inl was) (λ new. absurd (cc new.1)) (creates.else_left q None held)
   created_left q (Some c) (inl held) = ⊎_elim (λ was. inl (inl was)) (λ new. inr (c, new.0, refl, closed_short c (omega (arith, ap length new.1)))) (creates.bytes_left q c held)
-  created_left q (Some c) (inr held) = inl (inr (creates.else_left q (Some c) held))
+  created_left q (Some c) (inr held) = ⊎_elim
+      (λ was. inl (inr was))
+      (λ new. let empty : c ≡ [] = cc new.1 in inr (c, new.0, refl, closed_short c (omega (arith, ap length empty))))
+      (creates.else_left q (Some c) held)
 
   pub creating : LeavesAt v0 a (OrClosed v0 p)
   creating = goes_on v0 v0 a P (started v0 P sound (λ c may q. inl (may q))) creates.time (λ c may q. created_left q (c q) (may q))
@@ -146,7 +149,7 @@ closed_by v0 a w e p x y z creates writes syncs = record {
         (λ was. ⊎_elim (λ old. old) (λ new. absurd (ne new.0)) (creates.bytes_left q c was))
         (λ torn. absurd (ne torn.1))
         (writes.bytes_left q c (syncs.stays.bytes_left q c held));
-    else_left = λ q o ne held. creates.else_left q o (writes.else_left q o (syncs.stays.else_left q o held));
+    else_left = λ q o ne held. ⊎_elim (λ was. was) (λ new. absurd (ne new.0)) (creates.else_left q o (writes.else_left q o (syncs.stays.else_left q o held)));
   };
   names = syncs.names;
 }

@@ -7,7 +7,7 @@ use Rattle.disk_memory.proofs.Torn.{moved, created}
 use Rattle.disk_memory.proofs.memory.MemoryDiskDisk.create.Goals as goal
 
 pub returns-clause-told : goal.returns-clause-told
-returns-clause-told c = λ t.
+returns-clause-told c =
     let steps = c.args.self.now.steps.items in
     let p = place c.args.name.now c.args.id in
     moved steps c.push.new.self.items _ (λ v w. Creates v w p (Ok tt)) c.in_ok-push.ensures.items (created (history steps) c.args.name.now c.args.id c.requires.id (sound steps) (Some c.new.result) refl (ap Some c.new.ensures.items) tt)

@@ -6,7 +6,7 @@ use Rattle.disk_memory.specs.Versions.{image_of}
 use Rattle.disk_memory.proofs.memory.MemoryDiskDisk.list.Goals as goal
 
 pub returns-clause-lists : goal.returns-clause-lists
-returns-clause-lists c = λ t. record {
+returns-clause-lists c = record {
   each = λ id.
       let steps : c.deref.result.now ≡ c.args.self.now.steps.items = c.deref.ensures.value in
       let p = place c.args.name.now id in

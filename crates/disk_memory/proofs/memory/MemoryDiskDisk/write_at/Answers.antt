@@ -7,7 +7,7 @@ use Rattle.disk_memory.proofs.Torn.{moved, wrote}
 use Rattle.disk_memory.proofs.memory.MemoryDiskDisk.write_at.Goals as goal
 
 pub returns-clause-told : goal.returns-clause-told
-returns-clause-told c = λ t.
+returns-clause-told c =
     let steps = c.args.self.now.steps.items in
     let p = place c.args.name.now c.args.id in
     let was : (history steps).reading p ≡ Some c.in-Some.old.now = search rules in
