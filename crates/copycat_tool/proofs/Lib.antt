@@ -1,7 +1,8 @@
-mod Examples
 pub mod CallLemmas
+mod Examples
 pub mod ExpiringLemmas
 pub mod Following
+pub mod InOrder
 pub mod Keeping
 pub mod LineLemmas
 pub mod LogLemmas

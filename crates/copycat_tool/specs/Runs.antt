@@ -33,6 +33,13 @@ pub record IsInOrder (name : List ℕ) (v : View) (log : List Item) (least : ℕ
   pub each : (image : Image) → MayLeave v image → HasPrefix name log least image
   pub empty : IsEmptyWhereNone v name
 
+-- It is in order for a prefix of the log with at least so many items, all of it.
+pub record IsInOrderFor (name : List ℕ) (v : View) (log : List Item) (least : ℕ) : Type 0 where
+  pub count : ℕ
+  pub enough : least ≤ count
+  pub within : count ≤ length log
+  pub in_order : IsInOrder name v (take count log) count
+
 -- it stands for the one log or for the other
 abbrev pub StandsEither : List ℕ → List Item → List Item → Image → Type 0
 StandsEither name log log' image = StandsFor name image log ⊎ StandsFor name image log'

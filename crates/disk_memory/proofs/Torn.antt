@@ -7,14 +7,14 @@ use Rattle.disk_model.specs.Image.{IsFileId, Place, place, same_place, Torn, wri
 use Rattle.disk_model.specs.declared.file_id.FileId.{FileId}
 use Rattle.std.specs.declared.alloc.Global.{Global}
 use Rattle.std.proofs.Common.{Vec}
-use Rattle.disk_model.specs.View.{View, MayHold, Reads, Elapses, IsSound, IsSettled}
+use Rattle.disk_model.specs.View.{View, EachSettled, MayHold, Reads, Elapses, IsSound, IsSettled}
 use Rattle.disk_model.specs.Calls.{Writes, Creates, Removes, Syncs}
 use Rattle.disk_model.proofs.Names.{same_when, same_to, place_cases}
 use Rattle.disk_memory.specs.declared.steps.Kind.{Kind}
 use Rattle.disk_memory.specs.declared.steps.Kind.TheVariants.{Settled, Created, Written, Removed, Synced}
 use Rattle.disk_memory.specs.declared.steps.Step.{Step}
 use Rattle.disk_memory.specs.Kinds.{fits}
-use Rattle.disk_memory.specs.Placed.{EachSettled, Places}
+use Rattle.disk_memory.specs.Placed.{Places}
 use Rattle.disk_memory.specs.Versions.{bytes_of, version_place, version_bytes, image_of}
 use Rattle.disk_memory.specs.History.{Leaves, LeavesElse, next, read_after, from_newest, history, history_sound, hold_same}
 use Rattle.disk_model.proofs.Places.{elapses_not}
