@@ -9,7 +9,10 @@ use Rattle.copycat_tool.specs.declared.ending.Ending.{Ending}
 use Rattle.copycat_tool.specs.Turning.{KeepsRun, goes_on}
 
 others_further : (old mid new : View) (name name' : List ℕ) → name' ≡ name → KeepsNames old mid name → KeepsNames mid new name' → KeepsNames old new name
-others_further old mid new name name' is first more q isnt = more q (λ same. isnt (same ∙ is)) ∙ first q isnt
+others_further old mid new name name' is first more = record {
+  reading = λ q isnt. more.reading q (λ same. isnt (same ∙ is)) ∙ first.reading q isnt;
+  left = λ q o isnt held. first.left q o isnt (more.left q o (λ same. isnt (same ∙ is)) held);
+}
 
 -- a count that rose later has risen
 pub rose_later : (a b c : ℕ) → a ≤ b → Rose b c → Rose a c
@@ -23,7 +26,7 @@ module _ {D : Type 0} (tells : Bool) (view : D → View) (faults : D → ℕ) wh
   -- before the first part
   pub keeps_first : (h : Seen D Parts) (sink : ℕ) → KeepsRun tells view faults h h sink sink ⊥ goes_on
   keeps_first h sink = record {
-    others = λ t q isnt. refl;
+    others = λ t. record { reading = λ q isnt. refl; left = λ q o isnt held. held };
     name_is = refl;
     disk_later = omega arith;
     sink_later = omega arith;
