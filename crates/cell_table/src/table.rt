@@ -1,7 +1,7 @@
 // A table of the cells of one instance.
 ghost use Rattle.std.specs.Prelude.{◌≡◌, ◌++◌, ◌∷◌, ◌<◌, ℕ, ◌+◌, [], Some, true, false, length, IfOk, IfSome, IfNone, OnOk, OnErr, option_copied};
 ghost use Rattle.std.specs.Option.{option_map};
-ghost use Rattle.host_types.specs.Cells.{Cell_at, Held as AHeld, at, places_of, instance_after, without_owner, is_create};
+ghost use Rattle.host_types.specs.Cells.{Cell_at, Held as AHeld, at, stands, places_of, instance_after, without_owner, is_create};
 ghost use Rattle.host_types.specs.declared.entry.Cell.{Cell as ACell};
 ghost use Rattle.commit_lending.specs.Lent.{tokens, one_of};
 ghost use Rattle.machine.specs.Listing.{listed};
@@ -168,6 +168,13 @@ impl CellTable {
             Some(filled) => as_standing(Some((cell, filled))),
             None => None,
         }
+    }
+
+    /// Something stands at the cell.
+    pub fn contains(&self, cell: &Cell) -> bool
+        ensures { result ≡ stands self.now.cells (Cell_at self.now.instance cell.now) }
+    {
+        self.slots.at(cell).is_some()
     }
 
     /// What the cell holds.

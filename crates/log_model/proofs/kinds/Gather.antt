@@ -242,7 +242,7 @@ words_are m c words s sorted shown = keys_are nat_list_cmp_total exact_texts m w
     only (Waiter a b) h k x e = absurd (none_some e)
     only (Of session) h k x e = absurd (none_some e)
 
-pair_total : IsTotalOrder pair_cmp
+pub pair_total : IsTotalOrder pair_cmp
 pair_total = then_total (on_total (λ (p : List ℕ × List ℕ). p.0) nat_list_cmp_total) (on_total (λ (p : List ℕ × List ℕ). p.1) nat_list_cmp_total)
 
 pub exact_pairs : IsAntisymmetric pair_cmp
