@@ -10,3 +10,4 @@ pub mod RowStores
 pub mod ShownCloses
 pub mod ShownResources
 pub mod ShownRows
+pub mod Tabled

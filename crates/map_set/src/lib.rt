@@ -1,0 +1,6 @@
+//! Maps and sets.
+#![tactic(auto)]
+
+mod set;
+
+pub use set::SetCells;
