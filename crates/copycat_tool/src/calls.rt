@@ -9,7 +9,6 @@ ghost use Rattle.copycat_tool.specs.Runs.{Files};
 ghost use Rattle.copycat_tool.specs.Standing.{IsAt, IsCut};
 ghost use Rattle.copycat_tool.specs.Calls.{HasFewer, IsExpiring, IsTold, change_of, error_told, expiry_told, offer_told, printed_of};
 
-use crate::catalog::catalog_suits;
 use crate::ending::Ending;
 use disk_model::Disk;
 use host_recovery::{Answer, AskError, Host, HostError};
@@ -187,7 +186,6 @@ pub fn reopen<D: Disk>(alloc: Global, host: &mut Host<D, Catalog>) -> Result<Pri
     ensures later { D.faults host.old.disk ≤ D.faults host.new.disk }
     ensures disk { IsErrOf result Ending.DiskFault → D.faults host.old.disk < D.faults host.new.disk }
 {
-    catalog_suits();
     logs_of_catalogs_are_plain();
     let opened = host.reopen(alloc, Catalog::new(alloc));
     host.keeps();
