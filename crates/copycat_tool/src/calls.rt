@@ -9,7 +9,6 @@ ghost use Rattle.copycat_tool.specs.Standing.{IsAt, IsCut};
 ghost use Rattle.copycat_tool.specs.Turning.{KeepsRun};
 ghost use Rattle.copycat_tool.specs.Calls.{HasFewer, IsExpiring, IsTold, change_of, error_told, expiry_told, offer_told, printed_of};
 
-use crate::catalog::catalog_suits;
 use crate::ending::Ending;
 use disk_model::Disk;
 use host_recovery::{Answer, AskError, Host, HostError};
@@ -168,7 +167,6 @@ pub fn reopen<D: Disk>(alloc: Global, host: &mut Host<D, Catalog>) -> Result<Pri
         → IfErr result (IsCut files (D.view host.old.disk) (D.view host.new.disk) run Reopens) }
     ensures keeps { KeepsRun D.tells D.view D.faults host.old host.new 0 0 ⊥ result }
 {
-    catalog_suits();
     logs_of_catalogs_are_plain();
     let opened = host.reopen(alloc, Catalog::new(alloc));
     host.keeps();
