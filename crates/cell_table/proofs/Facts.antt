@@ -12,41 +12,24 @@ use Rattle.std.proofs.lemmas.Bool.{and_from, and_parts}
 use Rattle.host_types.specs.declared.entry.Cell.{Cell}
 use Rattle.host_types.specs.declared.entry.Kind.{Kind}
 use Rattle.host_types.specs.CellOrder.{cell_total}
-use Rattle.host_types.specs.Cells.{Cell_at, Held, at, cell_cmp, is_of_kind}
+use Rattle.host_types.specs.Cells.{Place, Cell_at, Held, at, cell_cmp, is_of_kind}
 use Rattle.cell_table.specs.declared.filled.Filled.{Filled}
 use Rattle.cell_table.specs.Slots.{Slots, held_in, slot_of, slot_at, shown}
 use Rattle.cell_table.specs.Arrivals.{Arrivals, arrival, is_waiter, AreArrived}
 use Rattle.cell_table.specs.Pairs.{is_spelled, AreRight}
-use Rattle.cell_table.specs.Lookups.{is_own, AreInOrder}
+use Rattle.cell_table.specs.Lookups.{AreInOrder}
 use Rattle.cell_table.proofs.Shown.{shown_sorted, at_shown, exact}
 use Rattle.cell_table.proofs.Bridge.{InOrder}
-use Rattle.cell_table.proofs.Walks.{true_of}
+use Rattle.cell_table.proofs.Walks.{true_of, shown_at}
 
--- each slot is found
-right_behind : (kind : Kind) (k : Cell) (slot : Option Filled) (es : Slots) → InOrder ((k, slot) ∷ es) → AreRight kind ((k, slot) ∷ es) → AreRight kind es
-right_behind kind k slot es s right c f there = right c f (ap slot_of (passed (is_eq (cell_cmp c k)) refl) ∙ there)
+own_cells : (kind : Kind) (m : ℕ) (es : Slots) → InOrder es → AreRight kind es → (place : Place) (held : Held) → at (shown m es) place ≡ Some held → (cell : Cell) × (place ≡ Cell_at m cell) × (is_of_kind kind cell held.content ≡ true)
+own_cells kind m es s right place held there =
+    let k = shown_at m es place held there in
+    (k.0, k.1, go k.0 (slot_at es k.0) refl (sym (at_shown m es k.0 s) ∙ sym (ap (λ p. at (shown m es) p) k.1) ∙ there))
   where
-    passed : (b : Bool) → is_eq (cell_cmp c k) ≡ b → lookup (is_at (cell_cmp c)) ((k, slot) ∷ es) ≡ lookup (is_at (cell_cmp c)) es
-    passed false t = ap (λ b. cond b (Some slot) (lookup (is_at (cell_cmp c)) es)) t
-    passed true t = absurd (none-some f (sym (missing es (sorted_head cell_cmp k (keys_of es) s)) ∙ there))
-      where
-        same : c ≡ k
-        same = exact c k t
-
-        missing : (es : Slots) → AllByRecursion (λ x. cell_cmp k x ≡ Less) (keys_of es) → slot_at es c ≡ None
-        missing [] h = refl
-        missing (e ∷ es) h = ap (λ o. slot_of (cond (is_eq o) (Some e.1) (lookup (is_at (cell_cmp c)) es))) (ap (λ x. cell_cmp x e.0) same ∙ h.0) ∙ missing es h.1
-
-pub own_cells : (kind : Kind) (m : ℕ) (es : Slots) → InOrder es → AreRight kind es → AllByRecursion (λ x. is_own kind m x ≡ true) (shown m es)
-own_cells kind m [] s right = tt
-own_cells kind m ((k, None) ∷ es) s right = own_cells kind m es (sorted_tail cell_cmp k (keys_of es) s) (right_behind kind k None es s right)
-own_cells kind m ((k, Some f) ∷ es) s right = (one, own_cells kind m es (sorted_tail cell_cmp k (keys_of es) s) (right_behind kind k (Some f) es s right))
-  where
-    here : slot_at ((k, Some f) ∷ es) k ≡ Some f
-    here = ap (λ o. slot_of (cond (is_eq o) (Some (Some f)) (lookup (is_at (cell_cmp k)) es))) (tied_itself cell_total k)
-
-    one : (m == m && is_of_kind kind k f.content) ≡ true
-    one = and_from (m == m) (is_of_kind kind k f.content) (nat_eq_equiv.refl m) (and_parts (is_of_kind kind k f.content) (is_spelled k) (right k f here)).0
+    go : (k : Cell) (o : Option Filled) → slot_at es k ≡ o → option_map held_in o ≡ Some held → is_of_kind kind k held.content ≡ true
+    go k None e is = absurd (none-some held is)
+    go k (Some f) e is = ap (λ (x : Held). is_of_kind kind k x.content) (sym (same_Some (held_in f) held is)) ∙ (and_parts (is_of_kind kind k f.content) (is_spelled k) (right k f e)).0
 
 waiters_apart : (m : ℕ) (es : Slots) (qs : Arrivals) → InOrder es → AreArrived es qs → (c d : Cell) (h g : Held) → is_waiter c ≡ true → is_waiter d ≡ true → at (shown m es) (Cell_at m c) ≡ Some h → at (shown m es) (Cell_at m d) ≡ Some g → h.index ≡ g.index → c ≡ d
 waiters_apart m es qs s arrived c d h g waits too there here same =

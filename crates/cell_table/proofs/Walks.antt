@@ -230,7 +230,7 @@ at_once p q [] = refl
 at_once p q (e ∷ c) = let rest = at_once p q c in elim (q e) as (λ b. filter p (cond b (e ∷ filter q c) (filter q c)) ≡ cond (b && p e) (e ∷ filter (λ x. q x && p x) c) (filter (λ x. q x && p x) c)) [ true ↦ ap (λ (l : Cells). cond (p e) (e ∷ l) l) rest | false ↦ rest ]
 
 -- what is shown stands at a cell of the instance
-shown_at : (m : ℕ) (es : Slots) (p : Place) (h : Held) → at (shown m es) p ≡ Some h → (k : Cell) × (p ≡ Cell_at m k)
+pub shown_at : (m : ℕ) (es : Slots) (p : Place) (h : Held) → at (shown m es) p ≡ Some h → (k : Cell) × (p ≡ Cell_at m k)
 shown_at m [] p h e = absurd (none-some h e)
 shown_at m ((k, None) ∷ es) p h e = shown_at m es p h e
 shown_at m ((k, Some f) ∷ es) p h e = go (eq_by_cmp place_cmp p (Cell_at m k)) refl e (λ e. shown_at m es p h e)

@@ -40,13 +40,8 @@ pub record IsFirstWaiter (m : ℕ) (cells : Cells) (from : ℕ) (cell : Cell) (h
   pub not_before : from ≤ held.index
   pub least : (c : Cell) (h : Held) → is_waiter c ≡ true → at cells (Cell_at m c) ≡ Some h → from ≤ h.index → held.index ≤ h.index
 
--- a cell of this kind, of this instance
-abbrev pub is_own : Kind → ℕ → Place × Held → Bool
-is_own kind m (Cell_at other cell, held) = m == other && is_of_kind kind cell held.content
-is_own kind m _ = false
-
 -- what is so of the cells of every table: they rise, each is one of its kind and instance, and no two waiters are held by one index
 pub record AreInOrder (kind : Kind) (m : ℕ) (cells : Cells) : Type 0 where
   pub rise : IsTrue (is_sorted place_cmp cells)
-  pub own : AllByRecursion (λ x. is_own kind m x ≡ true) cells
+  pub own : (place : Place) (held : Held) → at cells place ≡ Some held → (cell : Cell) × (place ≡ Cell_at m cell) × (is_of_kind kind cell held.content ≡ true)
   pub apart : (c d : Cell) (h g : Held) → is_waiter c ≡ true → is_waiter d ≡ true → at cells (Cell_at m c) ≡ Some h → at cells (Cell_at m d) ≡ Some g → h.index ≡ g.index → c ≡ d

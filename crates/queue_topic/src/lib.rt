@@ -1,0 +1,8 @@
+//! Queues and topics, each on a table of cells.
+#![tactic(auto)]
+
+mod listeners;
+mod topic;
+
+pub use listeners::{listen, listens, tell_listeners, unlisten};
+pub use topic::TopicCells;
