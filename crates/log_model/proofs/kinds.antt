@@ -4,6 +4,7 @@ pub mod Bridges
 pub mod Gather
 pub mod Keyed
 pub mod KindLaws
+pub mod Listings
 pub mod Readings
 pub mod RowLaws
 pub mod RowStores

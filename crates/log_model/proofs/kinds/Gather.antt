@@ -179,7 +179,7 @@ same_unit (Some x) (Some y) e = refl
 abbrev pub stood : {K : Type 0} → K → Held → Option (Unit {0})
 stood k h = Some tt
 
-read_stood : {K : Type 0} (k : K) (o : Option Held) → is_some (read_at stood k o) ≡ is_some o
+pub read_stood : {K : Type 0} (k : K) (o : Option Held) → is_some (read_at stood k o) ≡ is_some o
 read_stood k None = refl
 read_stood k (Some h) = refl
 
