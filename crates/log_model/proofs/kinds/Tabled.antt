@@ -125,19 +125,31 @@ read_word : {K : Type 0} (k : K) (o : Option Held) → read_at word_of k o ≡ t
 read_word k None = refl
 read_word k (Some h) = refl
 
+some_text : (key : List ℕ) (content : Content) → is_of_kind Map (Named key) content ≡ true → is_some (text_in content) ≡ true
+some_text key (Text word) e = refl
+some_text key Mark e = absurd (cc)
+some_text key (Number n) e = absurd (cc)
+
 pub map_find : (m : ℕ) (c : Cells) → IsTrue (is_sorted place_cmp c) → AreOf Map m c → (key : List ℕ) → find text_cmp key (pairs_in m c) ≡ text_of (content_at c (Cell_at m (Named key)))
 map_find m c s own key = find_is nat_list_cmp_total exact_texts m Map Named name_of word_of named_order named_back map_cell (λ k h. refl) c s own key ∙ read_word key (at c (Cell_at m (Named key)))
+
+pub map_has : (m : ℕ) (c : Cells) → IsTrue (is_sorted place_cmp c) → AreOf Map m c → (key : List ℕ) → is_some (find text_cmp key (pairs_in m c)) ≡ stands c (Cell_at m (Named key))
+map_has m c s own key = ap is_some (find_is nat_list_cmp_total exact_texts m Map Named name_of word_of named_order named_back map_cell (λ k h. refl) c s own key) ∙ go (at c (Cell_at m (Named key))) refl
+  where
+    text : (h : Held) → is_of_kind Map (Named key) h.content ≡ true → is_some (word_of key h) ≡ true
+    text h e = some_text key h.content e
+
+    go : (o : Option Held) → at c (Cell_at m (Named key)) ≡ o → is_some (read_at word_of key o) ≡ is_some o
+    go None e = refl
+    go (Some h) e =
+        let w = own (Cell_at m (Named key)) h e in
+        text h (ap (λ p. is_of_kind Map (cell_of p) h.content) w.1 ∙ w.2)
 
 pub map_size : (m : ℕ) (c : Cells) → IsTrue (is_sorted place_cmp c) → AreOf Map m c → length (pairs_in m c) ≡ length c
 map_size m c s own = size_is nat_list_cmp_total exact_texts m Map Named name_of word_of named_order named_back map_cell (λ k h. refl) c s own texts
   where
-    text : (key : List ℕ) (content : Content) → is_of_kind Map (Named key) content ≡ true → is_some (text_in content) ≡ true
-    text key (Text word) e = refl
-    text key Mark e = absurd (cc)
-    text key (Number n) e = absurd (cc)
-
     texts : (cell : Cell) (h : Held) → is_of_kind Map cell h.content ≡ true → is_some (word_of (name_of cell) h) ≡ true
-    texts cell h e = text (name_of cell) h.content (ap (λ k. is_of_kind Map k h.content) (sym (named_back cell h.content e)) ∙ e)
+    texts cell h e = some_text (name_of cell) h.content (ap (λ k. is_of_kind Map k h.content) (sym (named_back cell h.content e)) ∙ e)
 
 -- ---- sets
 
