@@ -31,7 +31,7 @@ use Rattle.host_core.specs.Seen.{hosted}
 use Rattle.host_recovery.specs.Lying.{LiesAlone}
 use Rattle.host_recovery.specs.Seen.{Seen}
 use Rattle.host_recovery.specs.Standing.{IsLog as HostIsLog, StandsAt, StandsFor as HostStandsFor, StandsOrGains, StandsOrTakes, StandsOrExpires, layout_in}
-use Rattle.host_recovery.specs.Answers.{AfterError, IsAnswer, IsExpiry, OnAnswer, OnExpiry, admits_file as host_admits_file, admits_stored, answer_of, expiry_refusal, expiry_stored}
+use Rattle.host_recovery.specs.Answers.{AfterError, IsAnswer, IsExpiry, OnAnswer, OnExpiry, admits_file as host_admits_file, admits_stored, answer_of, expiry_refusal, expiry_stored, if_filed}
 use Rattle.host_recovery.specs.declared.answers.Answer.{Answer as HostAnswer}
 use Rattle.host_recovery.specs.declared.answers.Answer.TheVariants as answers
 use Rattle.host_recovery.specs.declared.answers.HostError.{HostError}
@@ -48,7 +48,7 @@ use Rattle.copycat_tool.specs.declared.ending.Ending.{Ending}
 use Rattle.copycat_tool.specs.declared.ending.Ending.TheVariants.{DiskFault, NoMemory}
 use Rattle.copycat_tool.specs.Calls.{HasFewer, IsExpiring, IsTold, change_of, expiry_told, offer_told, printed_of}
 use Rattle.copycat_tool.specs.Logs.{IsLog, StandsFor}
-use Rattle.copycat_tool.specs.Report.{Run, Act, Change, Nothing, Stores, admission, admits_file, answer_by, changed, expired_answer, expiry, expiry_in, if_filed, reopening, Reopens, stored_as}
+use Rattle.copycat_tool.specs.Report.{Run, Act, Change, Nothing, Stores, admission, admits_file, answer_by, changed, expired_answer, expiry, expiry_in, reopening, Reopens, stored_as}
 use Rattle.copycat_tool.specs.Runs.{Files, StandsEither}
 use Rattle.copycat_tool.specs.Standing.{IsAt, IsCut, IsMade}
 use Rattle.copycat_tool.proofs.LogLemmas.{due_session, each_more, expires_when, fewer_due, id_past, logged_more}

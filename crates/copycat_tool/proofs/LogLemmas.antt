@@ -15,7 +15,8 @@ use Rattle.log_model.specs.plain.Stored.{is_admitted, is_log_from}
 use Rattle.resource_catalog.specs.PlainNames.{IsItemOfBuilt}
 use Rattle.log_model.specs.cleaning.Layout.{Layout}
 use Rattle.copycat_tool.specs.Logs.{IsLog}
-use Rattle.copycat_tool.specs.Report.{admits_file, expiry_in, if_filed}
+use Rattle.host_recovery.specs.Answers.{if_filed}
+use Rattle.copycat_tool.specs.Report.{admits_file, expiry_in}
 
 -- ---- one item more
 

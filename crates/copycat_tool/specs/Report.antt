@@ -13,6 +13,7 @@ use Rattle.script_text.specs.declared.printed.Printed.{Printed}
 use Rattle.script_text.specs.declared.printed.Printed.TheVariants as prints
 use Rattle.script_text.specs.Printing.{printed_text}
 use Rattle.log_model.specs.plain.Admission.{Item, Offered, Expired, Admission, Admitted, Repeats, Refused, Expiry, Expires, Nobody, Not_now, admits, expires, first_refusal, refused_if}
+use Rattle.host_recovery.specs.Answers.{filed, finds_file}
 use Rattle.log_model.specs.plain.Commands.{plain_look}
 use Rattle.log_model.specs.cleaning.Layout.{Layout, alone, needs_file, with_entry}
 use Rattle.log_model.specs.plain.Quiet.{quiet}
@@ -76,9 +77,9 @@ stores item text = record { does = Stores (item ∷ []); lines = printed_text te
 
 -- ---- what is offered
 
--- an entry finds a file: there is one, or a generation is left for a new one
+-- an entry finds a file
 abbrev pub admits_file : Layout → Admission
-admits_file layout = refused_if (needs_file layout && nat_le index_limit layout.greatest) (GenEnd layout.greatest)
+admits_file layout = finds_file (needs_file layout) layout.greatest
 
 -- what is printed of an entry that was stored at this index
 abbrev pub stored_as : ℕ → Body → Printed
@@ -95,14 +96,8 @@ answer_by (Refused why) run o = says (prints.Refused why)
 abbrev pub admission : Run → Offer → Admission
 admission run o = first_refusal (admits (folded run.log) o ∷ admits_file run.layout ∷ [])
 
-abbrev pub if_filed : Admission → ℕ → Expiry
-if_filed (Refused why) session = Not_now why
-if_filed _ session = Expires session
-
 abbrev pub expiry_in : Layout → Expiry → Expiry
-expiry_in layout (Expires session) = if_filed (admits_file layout) session
-expiry_in layout Nobody = Nobody
-expiry_in layout (Not_now why) = Not_now why
+expiry_in layout expiry = filed (admits_file layout) expiry
 
 -- who expires at a time: by the log, and then by its files
 abbrev pub expiry : Run → ℕ → Expiry

@@ -20,9 +20,13 @@ use Rattle.host_recovery.specs.declared.answers.AskError.{AskError}
 use Rattle.host_recovery.specs.declared.answers.AskError.TheVariants as unasked
 use Rattle.host_recovery.specs.Seen.{Seen}
 
--- an entry finds a file: there is one, or a generation is left for a new one
+-- An entry finds a file: there is one, or a generation is left for a new one. So by whether a new one is needed, and by the greatest
+-- generation.
+abbrev pub finds_file : Bool → ℕ → Admission
+finds_file needs greatest = refused_if (needs && nat_le index_limit greatest) (refusals.GenEnd greatest)
+
 abbrev pub admits_file : Parts → Admission
-admits_file parts = refused_if (is_none parts.tail && nat_le index_limit parts.greatest) (refusals.GenEnd parts.greatest)
+admits_file parts = finds_file (is_none parts.tail) parts.greatest
 
 -- a refusal, if there is one
 abbrev pub refused_by : Option Refusal → Admission
@@ -114,11 +118,15 @@ abbrev pub if_filed : Admission → ℕ → Expiry
 if_filed (Refused why) session = Not_now why
 if_filed _ session = Expires session
 
+-- who expires, where this says whether an entry finds a file
+abbrev pub filed : Admission → Expiry → Expiry
+filed admission (Expires session) = if_filed admission session
+filed admission Nobody = Nobody
+filed admission (Not_now why) = Not_now why
+
 -- who expires by the files as well
 abbrev pub expiry_stored : Expiry → Parts → Expiry
-expiry_stored (Expires session) parts = if_filed (admits_file parts) session
-expiry_stored Nobody parts = Nobody
-expiry_stored (Not_now why) parts = Not_now why
+expiry_stored expiry parts = filed (admits_file parts) expiry
 
 -- an expiry is refused by its cause, or a fault of what was due, or want of memory, which is free
 abbrev pub IsExpiry : Bool → Expiry → Parts → ℕ → Result (Option (ℕ × ℕ)) HostError → Type 0
