@@ -48,11 +48,10 @@ use Rattle.copycat_tool.specs.declared.ending.Ending.{Ending}
 use Rattle.copycat_tool.specs.declared.ending.Ending.TheVariants.{DiskFault, NoMemory}
 use Rattle.copycat_tool.specs.Calls.{HasFewer, IsExpiring, IsTold, change_of, expiry_told, offer_told, printed_of}
 use Rattle.copycat_tool.specs.Logs.{IsLog, StandsFor}
-use Rattle.copycat_tool.specs.Report.{Run, Answer, Change, Nothing, Stores, admission, admits_file, answer_by, changed, expired_answer, expiry, expiry_in, if_filed, reopening, Reopens, stored_as}
-use Rattle.copycat_tool.specs.Runs.{Files, HasPrefix}
+use Rattle.copycat_tool.specs.Report.{Run, Act, Change, Nothing, Stores, admission, admits_file, answer_by, changed, expired_answer, expiry, expiry_in, if_filed, reopening, Reopens, stored_as}
+use Rattle.copycat_tool.specs.Runs.{Files, StandsEither}
 use Rattle.copycat_tool.specs.Standing.{IsAt, IsCut, IsMade}
 use Rattle.copycat_tool.proofs.LogLemmas.{due_session, each_more, expires_when, fewer_due, id_past, logged_more}
-use Rattle.copycat_tool.proofs.Prefixes.{all_of, longer}
 use Rattle.copycat_tool.proofs.TurnLemmas.{made_nothing}
 
 -- what a host that stands at a log says of its files and of its state
@@ -107,15 +106,15 @@ module _ (law : LogsAreAsModel) where
 
   -- what a crash leaves while an item is stored
   gains : (name name' : List ℕ) (log : List Item) (item : Item) (v w : View) → IsLog log → IsLog (log ++ item ∷ []) → name ≡ name'
-      → LeavesOnly v w (StandsOrGains catalog_decision name log item) → LeavesOnly v w (HasPrefix name' (log ++ item ∷ []) (length log))
+      → LeavesOnly v w (StandsOrGains catalog_decision name log item) → LeavesOnly v w (StandsEither name' log (log ++ item ∷ []))
   gains name name' log item v w is more same only = weaker v w _ _ only (λ image has. elim has [
-    | inl s ↦ longer name' log (item ∷ []) _ _ image (omega arith) (all_of name' log (length log) image (omega arith) (plain_files name name' log is same image s))
-    | inr s ↦ all_of name' (log ++ item ∷ []) (length log) image (omega (arith, length-append log (item ∷ []))) (plain_files name name' (log ++ item ∷ []) more same image s)
+    | inl s ↦ inl (plain_files name name' log is same image s)
+    | inr s ↦ inr (plain_files name name' (log ++ item ∷ []) more same image s)
   ])
 
   -- and while none is
-  keeps_log : (name name' : List ℕ) (log : List Item) (v w : View) → IsLog log → name ≡ name' → LeavesOnly v w (λ image. HostStandsFor catalog_decision name image log) → LeavesOnly v w (HasPrefix name' log (length log))
-  keeps_log name name' log v w is same only = weaker v w _ _ only (λ image s. all_of name' log (length log) image (omega arith) (plain_files name name' log is same image s))
+  keeps_log : (name name' : List ℕ) (log : List Item) (v w : View) → IsLog log → name ≡ name' → LeavesOnly v w (λ image. HostStandsFor catalog_decision name image log) → LeavesOnly v w (StandsEither name' log log)
+  keeps_log name name' log v w is same only = weaker v w _ _ only (λ image s. inl (plain_files name name' log is same image s))
 
   module _ {D : Type 0} (view : D → View) (files : Files) (old new : Seen D Parts) (run : Run) (at : IsAt view files old run) (keeps : Keeps view new) (sound : IsSound (view new.disk))
       (name_is : new.parts.name ≡ old.parts.name) (size_is : new.size ≡ old.size) where
@@ -130,13 +129,13 @@ module _ (law : LogsAreAsModel) where
 
     module _ (item : Item) (built : IsItemOfBuilt item) where
       -- it was stored
-      pub made_stored : (this : Answer) → this.does ≡ Stores item → StandsAt catalog_decision view cells_of new (run.log ++ item ∷ [])
+      pub made_stored : (this : Act) → this.does ≡ Stores (item ∷ []) → StandsAt catalog_decision view cells_of new (run.log ++ item ∷ [])
           → layout_in (view new.disk) new.parts ≡ with_entry old.size (layout_in (view old.disk) old.parts)
           → LeavesOnly (view old.disk) (view new.disk) (StandsOrGains catalog_decision old.parts.name run.log item) → IsMade view files old new run this
       made_stored this does stands layout moments = made (subst P (sym does) (there, only))
         where
           next : Run
-          next = changed files.size run (Stores item)
+          next = changed files.size run (Stores (item ∷ []))
 
           more : IsLog (run.log ++ item ∷ [])
           more = from_hosted (run.log ++ item ∷ []) (each_more IsItemOfBuilt run.log item logged.built built) stands.log
@@ -145,18 +144,18 @@ module _ (law : LogsAreAsModel) where
           there = is_at view files new keeps sound next (name_is ∙ at.name_is) (size_is ∙ at.size_is) stands more
               (layout ∙ (λ i. with_entry (at.size_is i) (at.layout_is i)))
 
-          only : LeavesOnly (view old.disk) (view new.disk) (HasPrefix files.name next.log (length run.log))
+          only : LeavesOnly (view old.disk) (view new.disk) (StandsEither files.name run.log next.log)
           only = gains old.parts.name files.name run.log item (view old.disk) (view new.disk) logged more at.name_is moments
 
           P : Change → Type 0
-          P change = IsAt view files new (changed files.size run change) × LeavesOnly (view old.disk) (view new.disk) (HasPrefix files.name (changed files.size run change).log (length run.log))
+          P change = IsAt view files new (changed files.size run change) × LeavesOnly (view old.disk) (view new.disk) (StandsEither files.name run.log (changed files.size run change).log)
 
           made : P this.does → IsMade view files old new run this
           made both = record { at = both.0; any_moment = both.1 }
 
       -- it was stored or not
       pub cut_stored : (ending : Ending) → (ending ≡ DiskFault) ⊎ (ending ≡ NoMemory) → IsEmptyWhereNone (view new.disk) old.parts.name → is_admitted (folded run.log) item ≡ true → ItemFits item
-          → LeavesOnly (view old.disk) (view new.disk) (StandsOrGains catalog_decision old.parts.name run.log item) → IsCut files (view old.disk) (view new.disk) run (Stores item) ending
+          → LeavesOnly (view old.disk) (view new.disk) (StandsOrGains catalog_decision old.parts.name run.log item) → IsCut files (view old.disk) (view new.disk) run (Stores (item ∷ [])) ending
       cut_stored ending ending_is empty here fits moments =
           let more = logged_more run.log item logged here fits built in
           record {
@@ -175,7 +174,7 @@ module _ (law : LogsAreAsModel) where
       sound = sound;
       logged = subst IsLog (sym same) logged;
       empty = subst (λ (n : List ℕ). IsEmptyWhereNone (view new.disk) n) at.name_is empty;
-      any_moment = subst (λ (l : List Item). LeavesOnly (view old.disk) (view new.disk) (HasPrefix files.name l (length run.log))) (sym same) (keeps_log old.parts.name files.name run.log (view old.disk) (view new.disk) logged at.name_is moments);
+      any_moment = subst (λ (l : List Item). LeavesOnly (view old.disk) (view new.disk) (StandsEither files.name run.log l)) (sym same) (keeps_log old.parts.name files.name run.log (view old.disk) (view new.disk) logged at.name_is moments);
     }
 
     -- ---- an offer
@@ -213,12 +212,12 @@ module _ (law : LogsAreAsModel) where
           let text : printed_of answer ≡ stored_as (length run.log + 1) (entry_of (folded run.log) (Offered one)).body = ap printed_of is ∙ printed_as _ host_body ∙ (λ i. stored_as (at.last_is i + 1) (body_is i)) in
           let gained = subst (λ (a : Admission). LeavesOnly (view old.disk) (view new.disk) (StandsOrTakes catalog_decision old.parts.name run.log (Offered one) a)) here moments in
           subst (λ (a : Admission). Told a (printed_of answer)) (sym here ∙ admission_is)
-          (record { text_is = ap printed_text text; made = made_stored (Offered one) built (answer_by Admitted run one) refl stands layout gained })
+          (record { line_is = ap (λ (p : Printed). printed_text p ∷ []) (sym text); made = made_stored (Offered one) built (answer_by Admitted run one) refl stands layout gained })
 
-      same_told : (adm : Admission) (printed : Printed) → host_admission ≡ adm → new ≡ old → printed_text printed ≡ (answer_by adm run one).text → (answer_by adm run one).does ≡ Nothing → Told (admission run one) printed
-      same_told adm printed here same text does =
+      same_told : (adm : Admission) (printed : Printed) → host_admission ≡ adm → new ≡ old → (answer_by adm run one).lines ≡ printed_text printed ∷ [] → (answer_by adm run one).does ≡ Nothing → Told (admission run one) printed
+      same_told adm printed here same line does =
           subst (λ (a : Admission). Told a printed) (sym here ∙ admission_is)
-          (record { text_is = text; made = subst (λ (h : Seen D Parts). IsMade view files old h run (answer_by adm run one)) (sym same) (made_nothing view files old old run (answer_by adm run one) at does) })
+          (record { line_is = line; made = subst (λ (h : Seen D Parts). IsMade view files old h run (answer_by adm run one)) (sym same) (made_nothing view files old old run (answer_by adm run one) at does) })
 
       pub offer_answered : (result : Result HostAnswer HostError) → IsAnswer old.stopped host_admission ((hosted cells_of old.core).last + 1) host_body result
           → IfOk result (λ _. OnAnswer result (new ≡ old) (new.stopped ≡ false)) → IfErr result (AfterError cells_of old new)
@@ -306,7 +305,7 @@ module _ (law : LogsAreAsModel) where
           let gained = subst (λ (e : Expiry). LeavesOnly (view old.disk) (view new.disk) (StandsOrExpires catalog_decision old.parts.name run.log time e)) filed moments in (
             sym expiry_is ∙ filed,
             record {
-              text_is = ap (λ (n : ℕ). printed_text (prints.Expired n one.1)) (is.3 ∙ ap (λ (n : ℕ). n + 1) at.last_is);
+              line_is = ap (λ (n : ℕ). printed_text (prints.Expired n one.1) ∷ []) (sym (is.3 ∙ ap (λ (n : ℕ). n + 1) at.last_is));
               made = made_stored (Expired time one.1) tt (expired_answer run time one.1) refl stands layout gained;
             },
           )
@@ -351,7 +350,7 @@ module _ (law : LogsAreAsModel) where
     pub reopened : StandsAt catalog_decision view cells_of new run.log → layout_in (view new.disk) new.parts ≡ alone (layout_in (view old.disk) old.parts)
         → LeavesOnly (view old.disk) (view new.disk) (λ image. HostStandsFor catalog_decision old.parts.name image run.log) → IsTold view files old new run (reopening run) (prints.Opened (hosted cells_of new.core).last)
     reopened stands layout moments = record {
-      text_is = ap (λ (n : ℕ). printed_text (prints.Opened n)) (keeps.last run.log stands);
+      line_is = ap (λ (n : ℕ). printed_text (prints.Opened n) ∷ []) (sym (keeps.last run.log stands));
       made = record {
         at = is_at view files new keeps sound (changed files.size run Reopens) (name_is ∙ at.name_is) (size_is ∙ at.size_is) stands logged (layout ∙ ap alone at.layout_is);
         any_moment = keeps_log old.parts.name files.name run.log (view old.disk) (view new.disk) logged at.name_is moments;

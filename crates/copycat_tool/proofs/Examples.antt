@@ -12,7 +12,7 @@ use Rattle.script_text.specs.Printing.{printed_text}
 use Rattle.log_model.specs.cleaning.Layout.{no_files, alone}
 use Rattle.script_text.specs.Reading.{line_read}
 use Rattle.copycat_tool.specs.Script.{lines, command}
-use Rattle.copycat_tool.specs.Report.{Run, Answer, full, report, last_line, status_of, after}
+use Rattle.copycat_tool.specs.Report.{Run, Act, full, report, last_line, status_of, after}
 
 abbrev empty : Run
 empty = record { log = []; layout = no_files }
@@ -23,9 +23,13 @@ tick_at time = Offered (record { time = time; ask = Tick })
 abbrev script : List ℕ → List ℕ → List ℕ
 script line rest = line ++ 10 ∷ rest
 
+abbrev lines_told : List Act → List (List ℕ)
+lines_told [] = []
+lines_told (act ∷ acts) = act.lines ++ lines_told acts
+
 -- the lines that are printed, with the last line of the ending
 abbrev texts : Run → List ℕ → List (List ℕ)
-texts run bytes = map (λ (a : Answer). a.text) ((full 1024 run bytes).answers ++ last_line (full 1024 run bytes).ending)
+texts run bytes = lines_told (full 1024 run bytes).acts ++ last_line (codes "db") (full 1024 run bytes).ending
 
 -- the empty script on the empty folder
 empty_script : texts empty [] ≡ (codes "open " ++ decimal 0) ∷ []
@@ -62,7 +66,7 @@ unfolding lines command line_read report
 at_fault_status = refl
 
 -- two ticks lie in one new file of the first generation
-two_ticks : alone (after 1024 empty (full 1024 empty (script (codes "tick 1") (codes "tick 1"))).answers).layout
+two_ticks : alone (after 1024 empty (full 1024 empty (script (codes "tick 1") (codes "tick 1"))).acts).layout
     ≡ record { parts = record { base = 1; last = 2; present = 1 ∷ 2 ∷ []; cut = 0; floor = 0; generation = 1; size = 1024; rewritten = false } ∷ []; greatest = 1 }
 unfolding lines command line_read report
 two_ticks = refl

@@ -1,6 +1,9 @@
-mod Examples
 pub mod CallLemmas
+mod Examples
 pub mod ExpiringLemmas
+pub mod Following
+pub mod InOrder
+pub mod Keeping
 pub mod LineLemmas
 pub mod LogLemmas
 pub mod LoopLemmas
@@ -12,3 +15,4 @@ pub mod ReportLemmas
 pub mod RunLemmas
 pub mod StoredBuilt
 pub mod TurnLemmas
+pub mod Writing

@@ -1,41 +1,36 @@
 -- What a loop over the pieces of a script keeps, and what is reported at each of its exits.
-use Rattle.std.proofs.Common.{◌≡◌, ℕ, ◌+◌, ◌-◌, ◌≤◌, ◌<◌, nat_le, Bool, true, false, List, [], ◌∷◌, ◌++◌, length, take, drop, Option, Some, Result, refl, ap, sym, ◌∙◌, subst, arith, append_assoc, length-append, take-append-drop, length-take, nat_lt, if◌then◌else◌}
+use Rattle.std.proofs.Common.{◌≡◌, inl, ℕ, ◌+◌, ◌-◌, ◌≤◌, ◌<◌, nat_le, Bool, true, false, List, [], ◌∷◌, ◌++◌, length, take, drop, Option, Some, Result, refl, ap, sym, ◌∙◌, subst, arith, append_assoc, length-append, take-append-drop, length-take, nat_lt, if◌then◌else◌}
 use Rattle.std.proofs.lemmas.List.{append-nil, take_all}
 use Rattle.std.proofs.lemmas.Bool.Decides.{nat_tests}
 use Rattle.std.proofs.Math.Seq.{take-append-add, take-append_seam}
 use Rattle.disk_model.specs.View.{View}
-use Rattle.segment_set.specs.Fits.{KeepsNames}
 use Rattle.host_recovery.specs.Seen.{Seen}
 use Rattle.resource_catalog.specs.Parts.{Parts}
 use Rattle.copycat_tool.specs.Script.{command, line_limit, script_limit}
-use Rattle.copycat_tool.specs.Report.{Run, Report, Cut, Whole, Broken, Above, report, one, ends, in_front, last_piece, cut_of}
+use Rattle.copycat_tool.specs.Report.{Run, Act, Report, Cut, Whole, Broken, Above, after, report, one, ends, in_front, last_piece, cut_of, printed}
 use Rattle.copycat_tool.specs.declared.ending.Ending.{Ending}
 use Rattle.copycat_tool.specs.declared.ending.Ending.TheVariants.{Done, Fault, TooLong, ReadFault, WriteFault, DiskFault, NoMemory, Damaged}
 use Rattle.copycat_tool.specs.Reading.{Finds, TakesMore, EndsAt, IsShort, IsTooLong}
 use Rattle.copycat_tool.specs.declared.reader.Piece.{Piece}
 use Rattle.copycat_tool.specs.declared.reader.ReadError.{ReadError}
-use Rattle.copycat_tool.specs.Runs.{Files, Answered, Ended, IsComplete, came, reported}
+use Rattle.copycat_tool.specs.Runs.{Files, Ended, IsComplete, Wrote, came, reported}
 use Rattle.copycat_tool.specs.Standing.{IsAt, IsAtRest}
-use Rattle.copycat_tool.specs.Turning.{HasRun}
+use Rattle.copycat_tool.specs.Turning.{HasEndedIn, HasRun, HasTurned}
 use Rattle.copycat_tool.proofs.ReportLemmas.{report_at, report_none, report_long}
+use Rattle.copycat_tool.proofs.Prefixes.{after-append, printed-append}
 use Rattle.copycat_tool.proofs.Progress.{SoFar, at_first, one_more, stays, ends_after}
+use Rattle.copycat_tool.proofs.Writing.{wrote_as, wrote_more, wrote_none}
 
 -- So many lines were answered, and this is held and left of the script.
-pub record Met (files : Files) (first run : Run) (number : ℕ) (old now : View) (script held : List ℕ) (taken : ℕ) (left : Option (List ℕ)) (before : List ℕ) (written : Option (List ℕ)) : Type 0 where
+pub record Met {D : Type 0} (view : D → View) (files : Files) (old now : Seen D Parts) (first : Run) (number : ℕ) (script held : List ℕ) (taken : ℕ) (left : Option (List ℕ)) (written written' : Option (List ℕ)) : Type 0 where
   pub consumed : List ℕ
   pub rest : List ℕ
-  pub text : List ℕ
-  pub so_far : SoFar files first run number consumed old now text
+  pub so_far : SoFar files first number consumed (view old.disk) (view now.disk)
+  pub at : IsAt view files now (after files.size first so_far.done)
   pub parts : script ≡ consumed ++ (held ++ rest)
   pub left_is : left ≡ Some rest
   pub taken_is : taken ≡ length consumed + length held
-  pub written_is : written ≡ Some (before ++ text)
-
--- the same of a host, with the run that it stands at then
-pub record MetAt {D : Type 0} (view : D → View) (files : Files) (old now : Seen D Parts) (first : Run) (number : ℕ) (script held : List ℕ) (taken : ℕ) (left : Option (List ℕ)) (before : List ℕ) (written : Option (List ℕ)) : Type 0 where
-  pub run : Run
-  pub at : IsAt view files now run
-  pub met : Met files first run number (view old.disk) (view now.disk) script held taken left before written
+  pub wrote : Wrote written written' (printed so_far.done)
 
 -- more is held
 pub parts_more : (script consumed held held' left rest : List ℕ) (taken taken' : ℕ) → script ≡ consumed ++ (held ++ left) → TakesMore left held held' taken taken' rest → script ≡ consumed ++ (held' ++ rest)
@@ -63,8 +58,11 @@ not_below : (a b : ℕ) → b ≤ a → nat_lt a b ≡ false
 not_below a b le = grind (arith, nat_tests)
 
 -- a script whose first part is consumed and whose next part is held, within the limit
-module _ (files : Files) (first run : Run) (number : ℕ) (old now : View) (text consumed : List ℕ) (so_far : SoFar files first run number consumed old now text)
+module _ (files : Files) (first : Run) (number : ℕ) (old now : View) (consumed : List ℕ) (so_far : SoFar files first number consumed old now)
     (script held rest : List ℕ) (parts : script ≡ consumed ++ (held ++ rest)) (limit : length consumed + length held ≤ script_limit) where
+  abbrev run : Run
+  run = after files.size first so_far.done
+
   abbrev more : List ℕ
   more = take (script_limit - length (consumed ++ held)) rest
 
@@ -140,120 +138,119 @@ module _ (files : Files) (first run : Run) (number : ℕ) (old now : View) (text
 
 -- where the source hasn't failed, the report is of the whole script
 pub other : (size : ℕ) (ending : Ending) (run : Run) (script : List ℕ) (left : Option (List ℕ)) → (ending ≡ ReadFault → ⊥) → reported size ending run script left ≡ report size run 1 (cut_of script) (take script_limit script)
-other size Done run script left isnt = refl
-other size (Fault n) run script left isnt = refl
-other size TooLong run script left isnt = refl
-other size ReadFault run script left isnt = absurd (isnt refl)
-other size WriteFault run script left isnt = refl
-other size DiskFault run script left isnt = refl
-other size NoMemory run script left isnt = refl
-other size (Damaged base generation at) run script left isnt = refl
+other size Done first script left isnt = refl
+other size (Fault n) first script left isnt = refl
+other size TooLong first script left isnt = refl
+other size ReadFault first script left isnt = absurd (isnt refl)
+other size WriteFault first script left isnt = refl
+other size DiskFault first script left isnt = refl
+other size NoMemory first script left isnt = refl
+other size (Damaged base generation at) first script left isnt = refl
 
--- before the first piece
-pub met_first : (files : Files) (first : Run) (v : View) → IsAtRest files v first → (script held : List ℕ) (taken : ℕ) (left : Option (List ℕ)) (before : List ℕ) (written : Option (List ℕ))
-    → held ≡ [] → taken ≡ 0 → left ≡ Some script → written ≡ Some before → Met files first first 1 v v script held taken left before written
-met_first files first v at_rest script held taken left before written none zero left_is written_is = record {
-  consumed = [];
-  rest = script;
-  text = [];
-  so_far = at_first files first v at_rest;
-  parts = ap (λ (l : List ℕ). l ++ script) (sym none);
-  left_is = left_is;
-  taken_is = omega (arith, zero, ap length none);
-  written_is = written_is ∙ ap (λ (l : List ℕ). Some l) (sym (append-nil before));
-}
-
-module _ (files : Files) (first run : Run) (number : ℕ) (old now : View) (script held : List ℕ) (taken : ℕ) (left : Option (List ℕ)) (before : List ℕ) (written : Option (List ℕ))
-    (m : Met files first run number old now script held taken left before written) where
-  exit : (small : Report) (new : View) (more : List ℕ) (ending : Ending) → Ended files run small now new more ending → (told : Report) → told ≡ in_front m.so_far.done small
-      → (written' : Option (List ℕ)) → written' ≡ Some ((before ++ m.text) ++ more) → HasRun files told old new first before written' ending
-  exit small new more ending e told is written' w = record {
-    text = m.text ++ more;
-    written_is = w ∙ ap (λ (l : List ℕ). Some l) (append_assoc before m.text more);
-    ended = subst (λ (r : Report). Ended files first r old new (m.text ++ more) ending) (sym is) (ends_after files first run old now m.text m.so_far.done m.so_far.text_is m.so_far.run_is m.so_far.any_moment small new more ending e);
+module _ {D : Type 0} (view : D → View) (files : Files) where
+  -- before the first piece
+  pub met_first : (h : Seen D Parts) (first : Run) → IsAt view files h first → (script held : List ℕ) (taken : ℕ) (left : Option (List ℕ)) (written : Option (List ℕ))
+      → held ≡ [] → taken ≡ 0 → left ≡ Some script → Met view files h h first 1 script held taken left written written
+  met_first h first at script held taken left written none zero left_is = record {
+    consumed = [];
+    rest = script;
+    so_far = at_first files first (view h.disk) at.rest;
+    at = at;
+    parts = ap (λ (l : List ℕ). l ++ script) (sym none);
+    left_is = left_is;
+    taken_is = omega (arith, zero, ap length none);
+    wrote = wrote_none written;
   }
 
-  still : written ≡ Some ((before ++ m.text) ++ [])
-  still = m.written_is ∙ ap (λ (l : List ℕ). Some l) (sym (append-nil (before ++ m.text)))
+  module _ (old now : Seen D Parts) (first : Run) (number : ℕ) (script held : List ℕ) (taken : ℕ) (left : Option (List ℕ)) (written written' : Option (List ℕ))
+      (m : Met view files old now first number script held taken left written written') where
+    abbrev v : View
+    v = view old.disk
 
-  complete : (ending : Ending) → IsComplete ending (ends ending) 0 0 []
-  complete ending = record { ending_is = refl; all = refl; nothing_ahead = refl; no_part = refl }
+    abbrev w : View
+    w = view now.disk
 
-  -- no memory was left
-  pub memory_exit : IsAtRest files now run → taken ≤ script_limit → HasRun files (report files.size first 1 (cut_of script) (take script_limit script)) old now first before written NoMemory
-  memory_exit at_rest bound =
-      exit _ now [] NoMemory (stays files run (report files.size run number (cut_of script) (held ++ take (script_limit - length (m.consumed ++ held)) m.rest)) now NoMemory at_rest refl refl tt) _
-      (whole_is files first run number old now m.text m.consumed m.so_far script held m.rest m.parts (omega (arith, bound, m.taken_is))) written still
+    abbrev here : Run
+    here = after files.size first m.so_far.done
 
-  module _ (held' : List ℕ) (taken' : ℕ) (left' : Option (List ℕ)) (bound : taken' ≤ script_limit) where
-    module _ (found : Result Piece ReadError) (f : Finds m.rest held held' taken taken' left' found) where
-      abbrev parts' : script ≡ m.consumed ++ (held' ++ f.rest)
-      parts' = parts_more script m.consumed held held' m.rest f.rest taken taken' m.parts f.takes
+    exit : (small : Report) (new : View) (ending : Ending) (written'' : Option (List ℕ)) → HasRun files small w new here written' written'' ending → (told : Report) → told ≡ in_front m.so_far.done small
+        → HasRun files told v new first written written'' ending
+    exit small new ending written'' e told is = record {
+      text = printed m.so_far.done ++ e.text;
+      wrote = wrote_more written written' written'' (printed m.so_far.done) e.text m.wrote e.wrote;
+      ended = subst (λ (r : Report). Ended files first r v new (printed m.so_far.done ++ e.text) ending) (sym is) (ends_after files first m.so_far.done v w m.so_far.did small new e.text ending e.ended);
+    }
 
-      taken_is' : taken' ≡ length m.consumed + length held'
-      taken_is' = taken_more m.consumed held held' m.rest f.rest taken taken' m.taken_is f.takes
+    complete : (ending : Ending) → IsComplete ending (ends ending) 0 0 []
+    complete ending = record { ending_is = refl; all = refl; nothing_ahead = refl; no_part = refl }
 
-      limit' : length m.consumed + length held' ≤ script_limit
-      limit' = omega (arith, bound, taken_is')
+    -- no memory was left
+    pub memory_exit : taken ≤ script_limit → HasRun files (report files.size first 1 (cut_of script) (take script_limit script)) v w first written written' NoMemory
+    memory_exit bound =
+        let limit : length m.consumed + length held ≤ script_limit = omega (arith, bound, m.taken_is) in
+        let small = report files.size here number (cut_of script) (held ++ more files first number v w m.consumed m.so_far script held m.rest m.parts limit) in
+        exit small w NoMemory written' (record { text = []; wrote = wrote_none written'; ended = stays files here small w NoMemory m.at.rest (inl refl) (λ no. absurd (cc no)) }) _
+        (whole_is files first number v w m.consumed m.so_far script held m.rest m.parts limit)
 
-      -- the first line is too long
-      pub long_exit : IsAtRest files now run → IsTooLong held' → HasRun files (report files.size first 1 (cut_of script) (take script_limit script)) old now first before written (Fault number)
-      long_exit at_rest long =
-          exit (ends (Fault number)) now [] (Fault number) (stays files run (ends (Fault number)) now (Fault number) at_rest (complete (Fault number)) refl at_rest.laid_out) _
-          (at_long files first run number old now m.text m.consumed m.so_far script held' f.rest parts' limit' long) written still
+    module _ (held' : List ℕ) (taken' : ℕ) (left' : Option (List ℕ)) (bound : taken' ≤ script_limit) where
+      module _ (found : Result Piece ReadError) (f : Finds m.rest held held' taken taken' left' found) where
+        abbrev parts' : script ≡ m.consumed ++ (held' ++ f.rest)
+        parts' = parts_more script m.consumed held held' m.rest f.rest taken taken' m.parts f.takes
 
-      -- the script goes on above its limit
-      pub above_exit : IsAtRest files now run → IsShort held' → taken' ≡ script_limit → 0 < length f.rest → HasRun files (report files.size first 1 (cut_of script) (take script_limit script)) old now first before written TooLong
-      above_exit at_rest short full some =
-          exit (ends TooLong) now [] TooLong (stays files run (ends TooLong) now TooLong at_rest (complete TooLong) refl at_rest.laid_out) _
-          (at_above files first run number old now m.text m.consumed m.so_far script held' f.rest parts' limit' short (omega (arith, full, taken_is')) some) written still
+        taken_is' : taken' ≡ length m.consumed + length held'
+        taken_is' = taken_more m.consumed held held' m.rest f.rest taken taken' m.taken_is f.takes
 
-      -- the source failed
-      pub broken_exit : IsAtRest files now run → IsShort held' → left' ≡ Some f.rest → HasRun files (reported files.size ReadFault first script left') old now first before written ReadFault
-      broken_exit at_rest short left_is =
-          exit (ends ReadFault) now [] ReadFault (stays files run (ends ReadFault) now ReadFault at_rest (complete ReadFault) refl at_rest.laid_out) _
-          (ap (λ (l : Option (List ℕ)). report files.size first 1 Broken (came script l)) left_is ∙ at_broken files first run number old now m.text m.consumed m.so_far script held' f.rest parts' limit' short) written still
+        limit' : length m.consumed + length held' ≤ script_limit
+        limit' = omega (arith, bound, taken_is')
 
-      -- the last line was answered, or the run ended in it
-      pub last_exit : (piece : List ℕ) → piece ≡ held' → IsShort held' → f.rest ≡ [] → (new : View) (more : List ℕ) (ending : Ending) → (ending ≡ ReadFault → ⊥) → Ended files run (last_piece files.size Whole run number piece) now new more ending
-          → (written' : Option (List ℕ)) → written' ≡ Some ((before ++ m.text) ++ more) → HasRun files (reported files.size ending first script left') old new first before written' ending
-      last_exit piece is short none new more ending isnt e written' w =
-          exit (last_piece files.size Whole run number held') new more ending (subst (λ (l : List ℕ). Ended files run (last_piece files.size Whole run number l) now new more ending) is e) _
-          (other files.size ending first script left' isnt ∙ at_last files first run number old now m.text m.consumed m.so_far script held' f.rest parts' limit' short none) written' w
+        -- the first line is too long
+        pub long_exit : IsTooLong held' → HasRun files (report files.size first 1 (cut_of script) (take script_limit script)) v w first written written' (Fault number)
+        long_exit long =
+            exit (ends (Fault number)) w (Fault number) written' (record { text = []; wrote = wrote_none written'; ended = stays files here (ends (Fault number)) w (Fault number) m.at.rest (complete (Fault number)) (λ is. m.at.rest.laid_out) }) _
+            (at_long files first number v w m.consumed m.so_far script held' f.rest parts' limit' long)
 
-      -- the run ended in a line
-      pub line_exit : (n : ℕ) → EndsAt held' n → (line : List ℕ) → line ≡ take n held' → (new : View) (more : List ℕ) (ending : Ending) → (ending ≡ ReadFault → ⊥)
-          → ((rest : Run → Report) → Ended files run (one files.size (command line) run number rest) now new more ending)
-          → (written' : Option (List ℕ)) → written' ≡ Some ((before ++ m.text) ++ more) → HasRun files (reported files.size ending first script left') old new first before written' ending
-      line_exit n at line is new more ending isnt e written' w =
-          let rest = behind files first run number old now m.text m.consumed m.so_far script held' f.rest parts' limit' n in
-          exit (one files.size (command (take n held')) run number rest) new more ending (subst (λ (l : List ℕ). Ended files run (one files.size (command l) run number rest) now new more ending) is (e rest)) _
-          (other files.size ending first script left' isnt ∙ at_line files first run number old now m.text m.consumed m.so_far script held' f.rest parts' limit' n at) written' w
+        -- the script goes on above its limit
+        pub above_exit : IsShort held' → taken' ≡ script_limit → 0 < length f.rest → HasRun files (report files.size first 1 (cut_of script) (take script_limit script)) v w first written written' TooLong
+        above_exit short full some =
+            exit (ends TooLong) w TooLong written' (record { text = []; wrote = wrote_none written'; ended = stays files here (ends TooLong) w TooLong m.at.rest (complete TooLong) (λ is. m.at.rest.laid_out) }) _
+            (at_above files first number v w m.consumed m.so_far script held' f.rest parts' limit' short (omega (arith, full, taken_is')) some)
 
-      -- a line was answered
-      pub after_turn : (n : ℕ) → EndsAt held' n → left' ≡ Some f.rest → (line : List ℕ) → line ≡ take n held' → (run' : Run) (new : View) (more : List ℕ) → Answered files line run run' now new more
-          → (written' : Option (List ℕ)) → written' ≡ Some ((before ++ m.text) ++ more) → Met files first run' (number + 1) old new script (drop (n + 1) held') taken' left' before written'
-      after_turn n at left_is line is run' new more answered written' w = record {
-        consumed = m.consumed ++ (take n held' ++ 10 ∷ []);
-        rest = f.rest;
-        text = m.text ++ more;
-        so_far = one_more files first run number m.consumed old now m.text m.so_far (take n held') run' new more at.none_before (subst (λ (l : List ℕ). Answered files l run run' now new more) is answered);
-        parts = parts'
-            ∙ ap (λ (l : List ℕ). m.consumed ++ (l ++ f.rest)) (at.feed ∙ sym (append_assoc (take n held') (10 ∷ []) (drop (n + 1) held')))
-            ∙ ap (λ (l : List ℕ). m.consumed ++ l) (append_assoc (take n held' ++ 10 ∷ []) (drop (n + 1) held') f.rest)
-            ∙ sym (append_assoc m.consumed (take n held' ++ 10 ∷ []) (drop (n + 1) held' ++ f.rest));
-        left_is = left_is;
-        taken_is = omega (arith, taken_is', ap length at.feed, length-append (take n held') (10 ∷ drop (n + 1) held'), length-append m.consumed (take n held' ++ 10 ∷ []), length-append (take n held') (10 ∷ []));
-        written_is = w ∙ ap (λ (l : List ℕ). Some l) (append_assoc before m.text more);
-      }
+        -- the source failed
+        pub broken_exit : IsShort held' → left' ≡ Some f.rest → HasRun files (reported files.size ReadFault first script left') v w first written written' ReadFault
+        broken_exit short left_is =
+            exit (ends ReadFault) w ReadFault written' (record { text = []; wrote = wrote_none written'; ended = stays files here (ends ReadFault) w ReadFault m.at.rest (complete ReadFault) (λ is. m.at.rest.laid_out) }) _
+            (ap (λ (l : Option (List ℕ)). report files.size first 1 Broken (came script l)) left_is ∙ at_broken files first number v w m.consumed m.so_far script held' f.rest parts' limit' short)
 
--- the same in other words
-pub met_as : (files : Files) (first run : Run) (number : ℕ) (old now : View) (script held held' : List ℕ) (taken taken' : ℕ) (left : Option (List ℕ)) (before : List ℕ) (written : Option (List ℕ))
-    → held ≡ held' → taken ≡ taken' → Met files first run number old now script held taken left before written → Met files first run number old now script held' taken' left before written
-met_as files first run number old now script held held' taken taken' left before written held_is taken_is m =
-    subst (λ (l : List ℕ). Met files first run number old now script l taken' left before written) held_is
-    (subst (λ (n : ℕ). Met files first run number old now script held n left before written) taken_is m)
+        -- the last line was answered, or the run ended in it
+        pub last_exit : (piece : List ℕ) → piece ≡ held' → IsShort held' → f.rest ≡ [] → (new : View) (ending : Ending) (written'' : Option (List ℕ)) → (ending ≡ ReadFault → ⊥) → HasRun files (last_piece files.size Whole here number piece) w new here written' written'' ending
+            → HasRun files (reported files.size ending first script left') v new first written written'' ending
+        last_exit piece is short none new ending written'' isnt e =
+            exit (last_piece files.size Whole here number held') new ending written'' (subst (λ (l : List ℕ). HasRun files (last_piece files.size Whole here number l) w new here written' written'' ending) is e) _
+            (other files.size ending first script left' isnt ∙ at_last files first number v w m.consumed m.so_far script held' f.rest parts' limit' short none)
 
--- files of other names read as before, at a further call too
-pub others_further : (old mid new : View) (name name' : List ℕ) → name' ≡ name → KeepsNames old mid name → KeepsNames mid new name' → KeepsNames old new name
-others_further old mid new name name' is first more q isnt = more q (λ same. isnt (same ∙ is)) ∙ first q isnt
+        -- the run ended in a line
+        pub line_exit : (n : ℕ) → EndsAt held' n → (line : List ℕ) → line ≡ take n held' → (new : View) (ending : Ending) (written'' : Option (List ℕ)) → (ending ≡ ReadFault → ⊥)
+            → HasEndedIn files line number w new here written' written'' ending → HasRun files (reported files.size ending first script left') v new first written written'' ending
+        line_exit n at line is new ending written'' isnt e =
+            let rest = behind files first number v w m.consumed m.so_far script held' f.rest parts' limit' n in
+            exit (one files.size (command (take n held')) here number rest) new ending written'' (subst (λ (l : List ℕ). HasRun files (one files.size (command l) here number rest) w new here written' written'' ending) is (e rest)) _
+            (other files.size ending first script left' isnt ∙ at_line files first number v w m.consumed m.so_far script held' f.rest parts' limit' n at)
+
+        -- a line was answered
+        pub after_turn : (n : ℕ) → EndsAt held' n → left' ≡ Some f.rest → (line : List ℕ) → line ≡ take n held' → (new : Seen D Parts) (written'' : Option (List ℕ)) → HasTurned view files line now new here written' written''
+            → (skipped : List ℕ) → skipped ≡ drop (n + 1) held' → (taken'' : ℕ) → taken'' ≡ taken' → Met view files old new first (number + 1) script skipped taken'' left' written written''
+        after_turn n at left_is line is new written'' turned skipped skipped_is taken'' taken_same = record {
+          consumed = m.consumed ++ (take n held' ++ 10 ∷ []);
+          rest = f.rest;
+          so_far = one_more files first number m.consumed v w m.so_far (take n held') turned.acts (view new.disk) at.none_before
+              (λ number rest. ap (λ (l : List ℕ). one files.size (command l) here number rest) (sym is) ∙ turned.is number rest) turned.answered.did;
+          at = subst (IsAt view files new) (after-append files.size first m.so_far.done turned.acts) turned.answered.at;
+          parts = parts'
+              ∙ ap (λ (l : List ℕ). m.consumed ++ (l ++ f.rest)) (at.feed ∙ sym (append_assoc (take n held') (10 ∷ []) (drop (n + 1) held')))
+              ∙ ap (λ (l : List ℕ). m.consumed ++ l) (append_assoc (take n held' ++ 10 ∷ []) (drop (n + 1) held') f.rest)
+              ∙ sym (append_assoc m.consumed (take n held' ++ 10 ∷ []) (drop (n + 1) held' ++ f.rest))
+              ∙ ap (λ (l : List ℕ). (m.consumed ++ (take n held' ++ 10 ∷ [])) ++ (l ++ f.rest)) (sym skipped_is);
+          left_is = left_is;
+          taken_is = omega (arith, taken_same, ap length skipped_is, taken_is', ap length at.feed, length-append (take n held') (10 ∷ drop (n + 1) held'), length-append m.consumed (take n held' ++ 10 ∷ []), length-append (take n held') (10 ∷ []));
+          wrote = wrote_as written written'' _ _ (sym (printed-append m.so_far.done turned.acts)) (wrote_more written written' written'' (printed m.so_far.done) (printed turned.acts) m.wrote turned.answered.wrote);
+        }

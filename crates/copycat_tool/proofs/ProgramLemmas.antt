@@ -1,26 +1,32 @@
 -- From the opening of a log to the end of the run over it.
-use Rattle.std.proofs.Common.{◌≡◌, ◌⊎◌, inl, inr, ℕ, ◌≤◌, List, [], ◌∷◌, ◌++◌, length, take, Option, Some, refl, sym, ap, ◌∙◌, arith, Contains}
+use Rattle.std.proofs.Common.{◌≡◌, ◌⊎◌, inl, inr, ⊎_elim, refl, subst, ℕ, ◌≤◌, List, [], ◌∷◌, ◌++◌, length, take, Option, Some, refl, sym, ap, ◌∙◌, arith, Contains}
 use Rattle.host_types.specs.declared.entry.Entry.{Entry}
 use Rattle.disk_model.specs.declared.file_id.FileId.{FileId}
 use Rattle.disk_model.specs.Image.{Image}
-use Rattle.disk_model.specs.View.{View, IsSound, LeavesOnly}
-use Rattle.disk_model.proofs.Moments.{goes_further, has_now, weaker}
+use Rattle.disk_model.specs.View.{View, GoesOn, IsSound, LeavesOnly}
+use Rattle.disk_model.proofs.Moments.{has_now, weaker}
 use Rattle.disk_model.proofs.Places.{own}
 use Rattle.segment_files.specs.Parse.{Part}
 use Rattle.segment_files.specs.Folder.{folder, AreOf, IsFault, Stands}
 use Rattle.segment_set.specs.Fits.{IsEmptyWhereNone}
 use Rattle.segment_set.specs.declared.opening.OpenError.{OpenError}
-use Rattle.segment_set.specs.declared.opening.OpenError.TheVariants.{Damaged as Damage, NoMemory}
+use Rattle.segment_set.specs.declared.opening.OpenError.TheVariants as errors
+use Rattle.segment_set.specs.Opening.{id_from}
 use Rattle.segment_set.proofs.Images.{nothing, only_one}
 use Rattle.segment_set.proofs.Faultless.{no_fault}
 use Rattle.log_model.specs.plain.Admission.{Item}
 use Rattle.host_recovery.specs.Opening.{HasPrefix as HostHasPrefix, IsInOrder as HostIsInOrder}
 use Rattle.resource_catalog.specs.Catalog.{catalog_decision}
 use Rattle.resource_catalog.specs.PlainNames.{LogsAreAsModel}
-use Rattle.copycat_tool.specs.Report.{Run, items}
-use Rattle.copycat_tool.specs.Logs.{IsLog}
-use Rattle.copycat_tool.specs.Runs.{Files, HasPrefix, IsInOrder, Ran, RanSo, all_reported}
-use Rattle.copycat_tool.specs.Programs.{ClosesUnopened, OrAsBefore, damaged_line, unopened_line, unopened_status}
+use Rattle.copycat_tool.specs.Report.{Run}
+use Rattle.host_recovery.specs.Lying.{Lies}
+use Rattle.copycat_tool.specs.Logs.{IsLog, StandsFor}
+use Rattle.copycat_tool.specs.declared.ending.Ending.{Ending}
+use Rattle.copycat_tool.specs.declared.ending.Ending.TheVariants.{Damaged, DiskFault, NoMemory, ReadFault, WriteFault}
+use Rattle.copycat_tool.specs.Closing.{EndsRun}
+use Rattle.copycat_tool.specs.Endings.{ending_of}
+use Rattle.copycat_tool.specs.Runs.{Files, HasPrefix, IsInOrder, RanSo}
+use Rattle.copycat_tool.specs.Programs.{IsUnopened, OpensAndRuns, StaysUnopened}
 use Rattle.copycat_tool.proofs.CallLemmas.{as_hosted, hosted_files, plain_files}
 use Rattle.copycat_tool.proofs.LogLemmas.{logged_front}
 
@@ -62,50 +68,76 @@ in_order_no_fault v name log least id sound order fault =
     let p = order.each v.reading (λ q. own v sound q) in
     stands_no_fault v name _ id p.is fault
 
--- what was written where the status says that a file is damaged
-pub damage_written : (name : List ℕ) (error : OpenError) (before : List ℕ) (written : Option (List ℕ)) (status : ℕ) → ClosesUnopened name error before written status → status ≡ 7
-    → (base generation at : ℕ) → error ≡ Damage base generation at → at ≡ 0 → written ≡ Some (before ++ damaged_line name base generation 0)
-damage_written name error before written status closed seven base generation at is zero = of_told closed.why
-  where
-    whole : closed.told ≡ Damage base generation at → (status ≡ 7) → written ≡ Some (before ++ damaged_line name base generation 0)
-    whole told seven = elim closed.closes.how [
-      | inl all ↦ closed.written_is ∙ ap (λ (l : List ℕ). Some (before ++ l)) (all.1 ∙ ap (unopened_line name) told ∙ ap (λ (k : ℕ). damaged_line name base generation k) zero)
-      | inr part ↦ absurd (omega (arith, seven, part.1))
-    ]
+-- AN OPENING THAT FAILED
 
-    of_told : (closed.told ≡ error) ⊎ (closed.told ≡ NoMemory) → written ≡ Some (before ++ damaged_line name base generation 0)
-    of_told (inl same) = whole (same ∙ is) seven
-    of_told (inr none) = elim closed.closes.how [
-      | inl all ↦ absurd (let eight : status ≡ 8 = all.0 ∙ ap unopened_status none in omega (arith, seven, eight))
-      | inr part ↦ absurd (omega (arith, seven, part.1))
-    ]
+-- why the log isn't open, as its error tells
+pub why_unopened : (name : List ℕ) (v : View) (disk_failed : Type 0) (error : OpenError) → (error ≡ errors.Disk → disk_failed)
+    → ((base generation at : ℕ) → error ≡ errors.Damaged base generation at → (at ≡ 0) × IsFault (folder name v.reading) (id_from base generation)) → IsUnopened name v disk_failed (ending_of error)
+why_unopened name v disk_failed errors.Disk failed damaged = failed refl
+why_unopened name v disk_failed (errors.Damaged base generation at) failed damaged = damaged base generation at refl
+why_unopened name v disk_failed errors.NoMemory failed damaged = tt
 
--- THE RUN
-
--- what was left while the log was opened, and then while it was run
-pub runs_from_start : (files : Files) (run : Run) (script : List ℕ) (left : Option (List ℕ)) (v m w : View) (before : Image → Type 0) (text : List ℕ) (status : ℕ) (read_failed failed failed' : Type 0)
-    → LeavesOnly v m before → (failed → failed') → Ran files run script left m w text status read_failed failed → RanSo files run script left (OrAsBefore v w before) w text status read_failed failed'
-runs_from_start files run script left v m w before text status read_failed failed failed' opening fails ran = record {
-  ending = ran.ending;
-  body = ran.body;
-  last = ran.last;
-  text_is = ran.text_is;
-  ended = record {
-    whole = ran.ended.whole;
-    part = ran.ended.part;
-    text_is = ran.ended.text_is;
-    stored = ran.ended.stored;
-    not_behind = ran.ended.not_behind;
-    one_ahead = ran.ended.one_ahead;
-    ends_as = ran.ended.ends_as;
-    any_moment = goes_further v m w (λ c. before c ⊎ P c) (weaker v m before (λ c. before c ⊎ P c) opening (λ c is. inl is)) (weaker m w P (λ c. before c ⊎ P c) ran.ended.any_moment (λ c is. inr is));
-    at_exit = ran.ended.at_exit;
-    layout = ran.ended.layout;
-  };
-  read_fault = ran.read_fault;
-  disk_fault = λ is. fails (ran.disk_fault is);
-  closes = ran.closes;
+-- it is told in one line
+pub stays_unopened : (name : List ℕ) (script left : Option (List ℕ)) (v : View) (disk_failed : Type 0) (ending : Ending) → IsUnopened name v disk_failed ending → (written written' : Option (List ℕ)) (sink sink' status : ℕ)
+    → (e : EndsRun name ending written written' sink sink' status) → left ≡ script → StaysUnopened name script left v e.text status disk_failed
+stays_unopened name script left v disk_failed ending why written written' sink sink' status e unread = record {
+  ending = e.told;
+  why = elim e.why [
+    | inl same ↦ subst (IsUnopened name v disk_failed) (sym same) why
+    | inr numbered ↦ subst (IsUnopened name v disk_failed) (sym numbered.1) tt
+  ];
+  closes = e.closes;
+  unread = unread;
 }
-  where
-    P : Image → Type 0
-    P = HasPrefix files.name (run.log ++ items (take ran.ended.stored (all_reported files.size ran.ending run script left).answers)) (length run.log)
+
+pub unopened_of : (name : List ℕ) (v : View) (disk_failed : Type 0) (error : OpenError) (ending : Ending) → ending ≡ ending_of error → (error ≡ errors.Disk → disk_failed)
+    → ((base generation at : ℕ) → error ≡ errors.Damaged base generation at → (at ≡ 0) × IsFault (folder name v.reading) (id_from base generation)) → IsUnopened name v disk_failed ending
+unopened_of name v disk_failed error ending is failed damaged = subst (IsUnopened name v disk_failed) (sym is) (why_unopened name v disk_failed error failed damaged)
+
+-- which error an ending tells
+pub damage_from : (error : OpenError) (base generation at : ℕ) → ending_of error ≡ Damaged base generation at → error ≡ errors.Damaged base generation at
+damage_from errors.Disk base generation at is = absurd (cc is)
+damage_from (errors.Damaged b g a) base generation at is = cc is
+damage_from errors.NoMemory base generation at is = absurd (cc is)
+
+pub fault_from : (error : OpenError) → ending_of error ≡ DiskFault → error ≡ errors.Disk
+fault_from errors.Disk is = refl
+fault_from (errors.Damaged base generation at) is = absurd (cc is)
+fault_from errors.NoMemory is = absurd (cc is)
+
+pub of_calls : (error : OpenError) → ((ending_of error ≡ ReadFault) ⊎ (ending_of error ≡ WriteFault)) → ⊥
+of_calls errors.Disk (inl is) = cc is
+of_calls errors.Disk (inr is) = cc is
+of_calls (errors.Damaged base generation at) (inl is) = cc is
+of_calls (errors.Damaged base generation at) (inr is) = cc is
+of_calls errors.NoMemory (inl is) = cc is
+of_calls errors.NoMemory (inr is) = cc is
+
+-- AN OPENING, AND THEN A RUN
+
+-- up to the moment when it was open a crash leaves what the log was in order for
+pub opens_and_runs : (files : Files) (log : List Item) (least : ℕ) (script : List ℕ) (left : Option (List ℕ)) (v m w : View) (text : List ℕ) (status : ℕ) (read_failed failed failed' : Type 0) (run : Run) (count : ℕ) → least ≤ count → count ≤ length log
+    → run.log ≡ take count log → StandsFor files.name v.reading run.log → Lies files.name v.reading run.layout → LeavesOnly v m (HasPrefix files.name log least) → GoesOn m w → (failed → failed')
+    → RanSo files run script left m.moment w text status read_failed failed → OpensAndRuns files log least script left v w text status read_failed failed'
+opens_and_runs files log least script left v m w text status read_failed failed failed' run count enough within log_is read lies opening time fails ran = record {
+  run = run;
+  count = count;
+  enough = enough;
+  within = within;
+  log_is = log_is;
+  read = read;
+  lies = lies;
+  opened = m.moment;
+  later = opening.time.later;
+  before = λ image left. ⊎_elim (λ was. inl (opening.each image was)) (λ since. inr since) (time.nothing_else v.moment image opening.time.later left);
+  ran = record {
+    ending = ran.ending;
+    body = ran.body;
+    last = ran.last;
+    text_is = ran.text_is;
+    ended = ran.ended;
+    read_fault = ran.read_fault;
+    disk_fault = λ is. fails (ran.disk_fault is);
+    closes = ran.closes;
+  };
+}

@@ -1,190 +1,167 @@
 -- How far a run has come, and how it ends from there.
-use Rattle.std.proofs.Common.{◌≡◌, ℕ, ◌+◌, ◌≤◌, List, [], ◌∷◌, ◌++◌, length, take, false, refl, ap, sym, ◌∙◌, subst, arith, append_assoc, length-append}
-use Rattle.std.proofs.lemmas.List.{append-nil}
+use Rattle.std.proofs.Common.{◌≡◌, inl, inr, ⊎_elim, ◌⊎◌, ℕ, ◌+◌, ◌≤◌, List, [], ◌∷◌, ◌++◌, length, take, drop, false, refl, ap, sym, ◌∙◌, subst, arith, append_assoc, length-append}
 use Rattle.std.proofs.Math.Seq.{take-append-add, drop-append-add}
 use Rattle.disk_model.specs.Image.{Image}
-use Rattle.disk_model.specs.View.{View, MayLeave, LeavesOnly}
-use Rattle.disk_model.proofs.Moments.{started, goes_further, weaker}
+use Rattle.disk_model.specs.View.{View, GoesOn, MayLeave}
+use Rattle.disk_model.proofs.Moments.{stood, went_on}
 use Rattle.log_model.specs.plain.Admission.{Item}
 use Rattle.log_model.specs.cleaning.Layout.{alone}
 use Rattle.host_recovery.specs.Lying.{LiesAlone}
 use Rattle.copycat_tool.specs.Script.{has_feed}
-use Rattle.copycat_tool.specs.Report.{Run, Answer, Report, Cut, report, in_front, after, items, printed}
+use Rattle.copycat_tool.specs.Report.{Run, Act, Report, Cut, report, in_front, after, printed}
 use Rattle.copycat_tool.specs.declared.ending.Ending.{Ending}
 use Rattle.copycat_tool.specs.declared.ending.Ending.TheVariants.{Done, Fault, TooLong, ReadFault, WriteFault, DiskFault, NoMemory, Damaged}
-use Rattle.copycat_tool.specs.Logs.{IsLog}
-use Rattle.copycat_tool.specs.Runs.{Files, HasPrefix, Ended, EndsAs, WhereWhole, IsComplete, IsPartOfNext, Answered, sure}
+use Rattle.copycat_tool.specs.Runs.{Did, Files, Ended, EndedSo, EndsAs, Follows, HasPrefix, IsAnswered, IsComplete, IsInOrder, IsPartOfNext, IsSomeLines, StandsEither, is_by_call, log_at}
 use Rattle.copycat_tool.specs.Standing.{IsAtRest}
+use Rattle.copycat_tool.proofs.Following.{did_more, follows-append, still_follows}
 use Rattle.copycat_tool.proofs.ReportLemmas.{report_at}
-use Rattle.copycat_tool.proofs.Prefixes.{printed-append, items-append, after-append, log_after, all_of, longer, with_less}
+use Rattle.copycat_tool.proofs.Prefixes.{printed-append, after-append, all_of}
+
+-- nothing was done
+pub did_nothing : (files : Files) (run : Run) (v : View) → IsAtRest files v run → Did files [] run v v
+did_nothing files run v rest = record { time = stood v rest.sound; follows = refl }
+
+-- a folder at rest is in order for all of its log
+pub at_rest_in_order : (files : Files) (run : Run) (v : View) → IsAtRest files v run → IsInOrder files.name v run.log (length run.log)
+at_rest_in_order files run v rest = record { logged = rest.logged; each = λ image may. all_of files.name run.log (length run.log) image (omega arith) (rest.kept image may); empty = rest.empty }
 
 -- so many lines were read to their end and answered
-pub record SoFar (files : Files) (first run : Run) (number : ℕ) (consumed : List ℕ) (old now : View) (text : List ℕ) : Type 0 where
-  pub done : List Answer
-  pub text_is : text ≡ printed done
-  pub run_is : run ≡ after files.size first done
-  pub goes_on : (cut : Cut) (rest : List ℕ) → report files.size first 1 cut (consumed ++ rest) ≡ in_front done (report files.size run number cut rest)
-  pub any_moment : LeavesOnly old now (HasPrefix files.name run.log (length first.log))
+pub record SoFar (files : Files) (first : Run) (number : ℕ) (consumed : List ℕ) (old now : View) : Type 0 where
+  pub done : List Act
+  pub did : Did files done first old now
+  pub goes_on : (cut : Cut) (rest : List ℕ) → report files.size first 1 cut (consumed ++ rest) ≡ in_front done (report files.size (after files.size first done) number cut rest)
 
 module _ (files : Files) where
-  pub at_first : (first : Run) (v : View) → IsAtRest files v first → SoFar files first first 1 [] v v []
-  at_first first v rest = record {
-    done = [];
-    text_is = refl;
-    run_is = refl;
-    goes_on = λ cut rest. refl;
-    any_moment = started v (HasPrefix files.name first.log (length first.log)) rest.sound (λ image may. all_of files.name first.log (length first.log) image (omega arith) (rest.kept image may));
+  abbrev pub at_first : (first : Run) (v : View) → IsAtRest files v first → SoFar files first 1 [] v v
+  at_first first v rest = record { done = []; did = did_nothing files first v rest; goes_on = λ cut rest. refl }
+
+  -- nothing was written and nothing done
+  pub stays : (run : Run) (reported : Report) (v : View) (ending : Ending) → IsAtRest files v run → EndsAs ending reported 0 0 []
+      → (is_by_call ending ≡ false → LiesAlone files.name v.reading (alone (after files.size run reported.acts).layout)) → Ended files run reported v v [] ending
+  stays run reported v ending rest ends_as layout = record {
+    time = stood v rest.sound;
+    so = record {
+      whole = 0;
+      part = [];
+      text_is = refl;
+      sure = 0;
+      stored = 0;
+      not_behind = omega arith;
+      perhaps = omega arith;
+      one_ahead = omega arith;
+      ends_as = ends_as;
+      until = v.moment;
+      by_now = omega arith;
+      follows = refl;
+      since_then = λ image left. inl (rest.kept image (rest.sound.only_now image left));
+      at_exit = at_rest_in_order files run v rest;
+      layout = layout;
+    };
   }
 
-  -- nothing was written and nothing stored
-  pub stays : (run : Run) (reported : Report) (v : View) (ending : Ending) → IsAtRest files v run → EndsAs ending reported 0 0 [] → sure ending 0 0 ≡ 0
-      → WhereWhole ending (LiesAlone files.name v.reading (alone (after files.size run reported.answers).layout)) → Ended files run reported v v [] ending
-  stays run reported v ending rest ends_as sure_is layout =
-      let all : (n : ℕ) (image : Image) → n ≤ length run.log → MayLeave v image → HasPrefix files.name (run.log ++ []) n image =
-      λ n image le may. longer files.name run.log [] n n image (omega arith) (all_of files.name run.log n image le (rest.kept image may)) in
-      record {
-        whole = 0;
-        part = [];
-        text_is = refl;
-        stored = 0;
-        not_behind = omega arith;
-        one_ahead = omega arith;
-        ends_as = ends_as;
-        any_moment = started v _ rest.sound (λ image may. all (length run.log) image (omega arith) may);
-        at_exit = record {
-          logged = subst IsLog (sym (append-nil run.log)) rest.logged;
-          each = λ image may. subst (λ (n : ℕ). HasPrefix files.name (run.log ++ []) (length (run.log ++ items (take n reported.answers))) image) (sym sure_is)
-              (all (length (run.log ++ [])) image (omega (arith, length-append run.log (items []))) may);
-          empty = rest.empty;
-        };
-        layout = layout;
-      }
-
-  module _ (first run : Run) (number : ℕ) (consumed : List ℕ) (old now : View) (text : List ℕ) (so_far : SoFar files first run number consumed old now text) where
-    abbrev done : List Answer
+  module _ (first : Run) (number : ℕ) (consumed : List ℕ) (old now : View) (so_far : SoFar files first number consumed old now) where
+    abbrev done : List Act
     done = so_far.done
 
-    log_is : run.log ≡ first.log ++ items done
-    log_is = ap (λ (r : Run). r.log) so_far.run_is ∙ log_after files.size first done
-
-    shorter : length first.log ≤ length run.log
-    shorter = omega (arith, ap length log_is, length-append first.log (items done))
+    abbrev here : Run
+    here = after files.size first done
 
     -- one line more
-    pub one_more : (line : List ℕ) (run' : Run) (new : View) (more : List ℕ) → has_feed line ≡ false → Answered files line run run' now new more
-        → SoFar files first run' (number + 1) (consumed ++ (line ++ 10 ∷ [])) old new (text ++ more)
-    one_more line run' new more none answered =
-        let these : List Answer = answered.answers in
-        let log_more : run'.log ≡ run.log ++ items these = ap (λ (r : Run). r.log) answered.so.run_is ∙ log_after files.size run these in
-        record {
-          done = done ++ these;
-          text_is = ap (λ (l : List ℕ). l ++ more) so_far.text_is
-              ∙ ap (λ (l : List ℕ). printed done ++ l) answered.so.text_is
-              ∙ sym (printed-append done these);
-          run_is = answered.so.run_is
-              ∙ ap (λ (r : Run). after files.size r these) so_far.run_is
-              ∙ after-append files.size first done these;
-          goes_on = λ cut rest.
-              ap (λ (l : List ℕ). report files.size first 1 cut l) (append_assoc consumed (line ++ 10 ∷ []) rest ∙ ap (λ (l : List ℕ). consumed ++ l) (append_assoc line (10 ∷ []) rest))
-              ∙ so_far.goes_on cut (line ++ 10 ∷ rest)
-              ∙ ap (λ (r : Report). in_front done r) (report_at files.size run number cut line rest none)
-              ∙ ap (λ (r : Report). in_front done r) (answered.reported number (λ run. report files.size run (number + 1) cut rest))
-              ∙ regroup these (report files.size run' (number + 1) cut rest);
-          any_moment = goes_further old now new (HasPrefix files.name run'.log (length first.log))
-              (weaker old now _ _ so_far.any_moment (λ image has. subst (λ (l : List Item). HasPrefix files.name l (length first.log) image) (sym log_more) (longer files.name run.log (items these) _ _ image (omega arith) has)))
-              (weaker now new _ _ answered.so.any_moment (λ image has. with_less files.name run'.log _ _ image shorter has));
-        }
+    abbrev pub one_more : (line : List ℕ) (these : List Act) (new : View) → has_feed line ≡ false → IsAnswered files line here these → Did files these here now new
+        → SoFar files first (number + 1) (consumed ++ (line ++ 10 ∷ [])) old new
+    one_more line these new none answered did = record {
+      done = done ++ these;
+      did = did_more files old now new first done these so_far.did did;
+      goes_on = λ cut rest.
+          ap (λ (l : List ℕ). report files.size first 1 cut l) (append_assoc consumed (line ++ 10 ∷ []) rest ∙ ap (λ (l : List ℕ). consumed ++ l) (append_assoc line (10 ∷ []) rest))
+          ∙ so_far.goes_on cut (line ++ 10 ∷ rest)
+          ∙ ap (λ (r : Report). in_front done r) (report_at files.size here number cut line rest none)
+          ∙ ap (λ (r : Report). in_front done r) (answered number (λ run. report files.size run (number + 1) cut rest))
+          ∙ regroup (report files.size (after files.size here these) (number + 1) cut rest)
+          ∙ ap (λ (r : Run). in_front (done ++ these) (report files.size r (number + 1) cut rest)) (after-append files.size first done these);
+    }
       where
-        regroup : (these : List Answer) (r : Report) → in_front done (in_front these r) ≡ in_front (done ++ these) r
-        regroup these r = ap (λ (l : List Answer). record { answers = l; ending = r.ending }) (sym (append_assoc done these r.answers))
+        regroup : (r : Report) → in_front done (in_front these r) ≡ in_front (done ++ these) r
+        regroup r = ap (λ (l : List Act). record { acts = l; ending = r.ending }) (sym (append_assoc done these r.acts))
 
-  -- what comes behind some answers
-  module _ (first run : Run) (old now : View) (text : List ℕ) (done : List Answer) (text_is : text ≡ printed done) (run_is : run ≡ after files.size first done)
-      (left : LeavesOnly old now (HasPrefix files.name run.log (length first.log))) where
-    log_is' : run.log ≡ first.log ++ items done
-    log_is' = ap (λ (r : Run). r.log) run_is ∙ log_after files.size first done
+  -- what comes behind some acts
+  module _ (first : Run) (done : List Act) (old now : View) (did : Did files done first old now) where
+    abbrev run : Run
+    run = after files.size first done
 
-    no_longer : length first.log ≤ length run.log
-    no_longer = omega (arith, ap length log_is', length-append first.log (items done))
+    module _ (rest : Report) (new : View) (more : List ℕ) (ending : Ending) (ended : Ended files run rest now new more ending) where
+      abbrev e : EndedSo files run rest now.moment new more ending
+      e = ended.so
 
-    module _ (rest : Report) (new : View) (more : List ℕ) (ending : Ending) (e : Ended files run rest now new more ending) where
-      abbrev all : List Answer
-      all = done ++ rest.answers
+      abbrev all : List Act
+      all = done ++ rest.acts
 
-      front : (n : ℕ) → take (length done + n) all ≡ done ++ take n rest.answers
-      front n = take-append-add done rest.answers n
+      front : (n : ℕ) → take (length done + n) all ≡ done ++ take n rest.acts
+      front n = take-append-add done rest.acts n
 
-      stored_log : (n : ℕ) → first.log ++ items (take (length done + n) all) ≡ run.log ++ items (take n rest.answers)
-      stored_log n =
-          ap (λ (l : List Answer). first.log ++ items l) (front n)
-          ∙ ap (λ (l : List Item). first.log ++ l) (items-append done (take n rest.answers))
-          ∙ sym (append_assoc first.log (items done) (items (take n rest.answers)))
-          ∙ ap (λ (l : List Item). l ++ items (take n rest.answers)) (sym log_is')
+      run_at : (n : ℕ) → after files.size run (take n rest.acts) ≡ after files.size first (take (length done + n) all)
+      run_at n = after-append files.size first done (take n rest.acts) ∙ ap (after files.size first) (sym (front n))
 
-      run_after : after files.size run rest.answers ≡ after files.size first all
-      run_after = ap (λ (r : Run). after files.size r rest.answers) run_is ∙ after-append files.size first done rest.answers
+      log_so : (n : ℕ) → log_at files run rest n ≡ log_at files first (in_front done rest) (length done + n)
+      log_so n = ap (λ (r : Run). r.log) (run_at n)
 
-      complete : (x : Ending) → IsComplete x rest e.whole e.stored e.part → IsComplete x (in_front done rest) (length done + e.whole) (length done + e.stored) e.part
+      complete : (x : Ending) → IsComplete x rest e.whole e.sure e.part → IsComplete x (in_front done rest) (length done + e.whole) (length done + e.sure) e.part
       complete x is = record {
         ending_is = is.ending_is;
-        all = omega (arith, is.all, length-append done rest.answers);
+        all = omega (arith, is.all, length-append done rest.acts);
         nothing_ahead = omega (arith, is.nothing_ahead);
         no_part = is.no_part;
       }
 
-      part_of_next : IsPartOfNext rest.answers e.whole e.part → IsPartOfNext all (length done + e.whole) e.part
-      part_of_next is = record {
-        next = is.next;
-        behind = is.behind;
-        is_next = drop-append-add done rest.answers e.whole ∙ is.is_next;
-        count = is.count;
-        not_all = is.not_all;
-        part_is = is.part_is;
-      }
+      behind_done : (n : ℕ) (next : Act) (behind : List Act) → drop n rest.acts ≡ next ∷ behind → drop (length done + n) all ≡ next ∷ behind
+      behind_done n next behind is = drop-append-add done rest.acts n ∙ is
 
-      ends_so : (x : Ending) → EndsAs x rest e.whole e.stored e.part → EndsAs x (in_front done rest) (length done + e.whole) (length done + e.stored) e.part
+      part_of_next : IsPartOfNext rest.acts e.whole e.part → IsPartOfNext all (length done + e.whole) e.part
+      part_of_next is = record { next = is.next; behind = is.behind; is_next = behind_done e.whole is.next is.behind is.is_next; count = is.count; not_all = is.not_all; part_is = is.part_is }
+
+      some_lines : IsSomeLines rest.acts e.whole e.part → IsSomeLines all (length done + e.whole) e.part
+      some_lines is = record { next = is.next; behind = is.behind; is_next = behind_done e.whole is.next is.behind is.is_next; count = is.count; not_all = is.not_all; part_is = is.part_is }
+
+      one_more_is : e.sure ≡ e.whole + 1 → length done + e.sure ≡ length done + e.whole + 1
+      one_more_is is = omega (arith, is)
+
+      ends_so : (x : Ending) → EndsAs x rest e.whole e.sure e.part → EndsAs x (in_front done rest) (length done + e.whole) (length done + e.sure) e.part
       ends_so Done is = complete Done is
       ends_so (Fault n) is = complete (Fault n) is
       ends_so TooLong is = complete TooLong is
       ends_so ReadFault is = complete ReadFault is
-      ends_so WriteFault is = part_of_next is
+      ends_so WriteFault is = (part_of_next is.0, one_more_is is.1)
       ends_so DiskFault is = is
-      ends_so NoMemory is = is
+      ends_so NoMemory (inl none) = inl none
+      ends_so NoMemory (inr some) = inr (some_lines some.0, one_more_is some.1)
       ends_so (Damaged base generation at) is = is
 
-      sure_so : (x : Ending) (d w s : ℕ) → sure x (d + w) (d + s) ≡ d + sure x w s
-      sure_so Done d w s = refl
-      sure_so (Fault n) d w s = refl
-      sure_so TooLong d w s = refl
-      sure_so ReadFault d w s = refl
-      sure_so WriteFault d w s = refl
-      sure_so DiskFault d w s = refl
-      sure_so NoMemory d w s = refl
-      sure_so (Damaged base generation at) d w s = refl
-
-      pub ends_after : Ended files first (in_front done rest) old new (text ++ more) ending
+      pub ends_after : Ended files first (in_front done rest) old new (printed done ++ more) ending
       ends_after = record {
-        whole = length done + e.whole;
-        part = e.part;
-        text_is = ap (λ (l : List ℕ). l ++ more) text_is
-            ∙ ap (λ (l : List ℕ). printed done ++ l) e.text_is
-            ∙ sym (append_assoc (printed done) (printed (take e.whole rest.answers)) e.part)
-            ∙ ap (λ (l : List ℕ). l ++ e.part) (sym (printed-append done (take e.whole rest.answers)) ∙ ap printed (sym (front e.whole)));
-        stored = length done + e.stored;
-        not_behind = omega (arith, e.not_behind);
-        one_ahead = omega (arith, e.one_ahead);
-        ends_as = ends_so ending e.ends_as;
-        any_moment = subst (λ (l : List Item). LeavesOnly old new (HasPrefix files.name l (length first.log))) (sym (stored_log e.stored))
-            (goes_further old now new (HasPrefix files.name (run.log ++ items (take e.stored rest.answers)) (length first.log))
-            (weaker old now _ _ left (λ image has. longer files.name run.log (items (take e.stored rest.answers)) _ _ image (omega arith) has))
-            (weaker now new _ _ e.any_moment (λ image has. with_less files.name _ _ _ image no_longer has)));
-        at_exit = record {
-          logged = subst IsLog (sym (stored_log e.stored)) e.at_exit.logged;
-          each = λ image may.
-              subst (λ (n : ℕ). HasPrefix files.name (first.log ++ items (take (length done + e.stored) all)) (length (first.log ++ items (take n all))) image) (sym (sure_so ending (length done) e.whole e.stored))
-              (subst (λ (l : List Item). HasPrefix files.name (first.log ++ items (take (length done + e.stored) all)) (length l) image) (sym (stored_log (sure ending e.whole e.stored)))
-              (subst (λ (l : List Item). HasPrefix files.name l (length (run.log ++ items (take (sure ending e.whole e.stored) rest.answers))) image) (sym (stored_log e.stored)) (e.at_exit.each image may)));
-          empty = e.at_exit.empty;
+        time = went_on old now new did.time ended.time;
+        so = record {
+          whole = length done + e.whole;
+          part = e.part;
+          text_is = ap (λ (l : List ℕ). printed done ++ l) e.text_is
+              ∙ sym (append_assoc (printed done) (printed (take e.whole rest.acts)) e.part)
+              ∙ ap (λ (l : List ℕ). l ++ e.part) (sym (printed-append done (take e.whole rest.acts)) ∙ ap printed (sym (front e.whole)));
+          sure = length done + e.sure;
+          stored = length done + e.stored;
+          not_behind = omega (arith, e.not_behind);
+          perhaps = omega (arith, e.perhaps);
+          one_ahead = omega (arith, e.one_ahead);
+          ends_as = ends_so ending e.ends_as;
+          until = e.until;
+          by_now = e.by_now;
+          follows = subst (λ (l : List Act). Follows files new first l old.moment e.until) (sym (front e.sure))
+              (follows-append files new first done (take e.sure rest.acts) old.moment now.moment e.until
+              (still_follows files now new ended.time first done old.moment now.moment (omega arith) did.follows) e.follows);
+          since_then = λ image left.
+              subst (λ (l : List Item). StandsEither files.name l (log_at files first (in_front done rest) (length done + e.stored)) image) (log_so e.sure)
+              (subst (λ (l : List Item). StandsEither files.name (log_at files run rest e.sure) l image) (log_so e.stored) (e.since_then image left));
+          at_exit =
+              subst (λ (l : List Item). IsInOrder files.name new l (length (log_at files first (in_front done rest) (length done + e.sure)))) (log_so e.stored)
+              (subst (λ (l : List Item). IsInOrder files.name new (log_at files run rest e.stored) (length l)) (log_so e.sure) e.at_exit);
+          layout = λ is. subst (λ (r : Run). LiesAlone files.name new.reading (alone r.layout)) (after-append files.size first done rest.acts) (e.layout is);
         };
-        layout = subst (λ (r : Run). WhereWhole ending (LiesAlone files.name new.reading (alone r.layout))) run_after e.layout;
       }

@@ -1,9 +1,9 @@
 -- More and more is taken, and searched for a line feed.
-use Rattle.std.proofs.Common.{◌≡◌, ℕ, ◌+◌, ◌-◌, ◌==◌, ◌||◌, Bool, true, false, List, [], ◌∷◌, ◌++◌, length, take, drop, ap, sym, ◌∙◌, subst, arith, append_assoc, length-append, length-drop, take-append-drop}
+use Rattle.std.proofs.Common.{◌≡◌, ℕ, ◌+◌, ◌-◌, ◌≤◌, ◌==◌, ◌||◌, Bool, true, false, List, [], ◌∷◌, ◌++◌, length, take, drop, Option, Some, ap, sym, ◌∙◌, subst, arith, append_assoc, length-append, length-drop, take-append-drop}
 use Rattle.std.proofs.lemmas.List.{drop-drop, take_all}
-use Rattle.std.proofs.Math.Seq.{take-add}
-use Rattle.copycat_tool.specs.Script.{has_feed}
-use Rattle.copycat_tool.specs.Reading.{EndsAt, TakesMore}
+use Rattle.std.proofs.Math.Seq.{drop-append_seam, take-add}
+use Rattle.copycat_tool.specs.Script.{has_feed, script_limit}
+use Rattle.copycat_tool.specs.Reading.{EndsAt, IsFrontOf, IsTaken, TakesMore}
 
 pub takes_further : (left rest last held mid held' : List ℕ) (taken between taken' : ℕ)
     → TakesMore left held mid taken between rest → TakesMore rest mid held' between taken' last → TakesMore left held held' taken taken' last
@@ -46,3 +46,25 @@ ends_further held rest searched n none is at =
 pub none_further : (held rest : List ℕ) (searched : ℕ) → has_feed (take searched held) ≡ false → rest ≡ drop searched held → has_feed rest ≡ false → has_feed held ≡ false
 none_further held rest searched none is none' =
     ap has_feed (sym (take-append-drop searched held)) ∙ none-append (take searched held) (drop searched held) none (ap has_feed (sym is) ∙ none')
+
+-- ---- what is left of the script
+
+-- where a piece was found, all that was taken is a front of the script
+pub front_further : (script held held' rest : List ℕ) (taken taken' : ℕ) (now : Option (List ℕ)) → TakesMore (drop taken script) held held' taken taken' rest → now ≡ Some rest → now ≡ Some (drop taken' script)
+front_further script held held' rest taken taken' now takes is =
+    is ∙ ap (λ (l : List ℕ). Some l)
+    (sym (drop-append_seam takes.more rest) ∙ ap (drop (length takes.more)) (sym takes.parts) ∙ drop-drop (length takes.more) taken script ∙ ap (λ (n : ℕ). drop n script) (sym takes.taken_is))
+
+-- and where none was, it is one as well
+pub taken_front : (script : List ℕ) (taken : ℕ) (now : Option (List ℕ)) → IsTaken taken (drop taken script) now → IsFrontOf script now
+taken_front script taken now t = record { count = taken + t.count; within = omega (arith, t.within); rest = t.rest ∙ ap (λ (l : List ℕ). Some l) (drop-drop t.count taken script) }
+
+pub taken_further : (left held mid rest : List ℕ) (taken between : ℕ) (now : Option (List ℕ)) → TakesMore left held mid taken between rest → IsTaken between rest now → IsTaken taken left now
+taken_further left held mid rest taken between now takes t = record {
+  count = length takes.more + t.count;
+  within = omega (arith, t.within, takes.taken_is);
+  rest = t.rest ∙ ap (λ (l : List ℕ). Some l) (ap (drop t.count) (sym (drop-append_seam takes.more rest) ∙ ap (drop (length takes.more)) (sym takes.parts)) ∙ drop-drop t.count (length takes.more) left);
+}
+
+pub taken_none : (taken : ℕ) (rest : List ℕ) (now : Option (List ℕ)) → taken ≤ script_limit → now ≡ Some rest → IsTaken taken rest now
+taken_none taken rest now le is = record { count = 0; within = omega (arith, le); rest = is }

@@ -1,8 +1,9 @@
--- How answers follow one another, and how a run ends within one.
-use Rattle.std.proofs.Common.{◌≡◌, inl, inr, ℕ, ◌≤◌, ◌<◌, List, [], ◌∷◌, ◌++◌, length, take, Option, Some, None, refl, ap, sym, ◌∙◌, subst, arith, append_assoc, length-append}
+-- How acts follow one another, and how a run ends within one.
+use Rattle.std.proofs.Common.{◌≡◌, ◌⊎◌, inl, inr, ⊎_elim, ℕ, ◌≤◌, ◌<◌, Bool, true, false, List, [], ◌∷◌, ◌++◌, length, take, Option, Some, None, Result, Ok, Err, refl, ap, sym, ◌∙◌, subst, arith, append_assoc, length-append}
 use Rattle.std.proofs.lemmas.List.{append-nil, take_all}
+use Rattle.disk_model.specs.Image.{Image}
 use Rattle.disk_model.specs.View.{View, LeavesOnly}
-use Rattle.disk_model.proofs.Moments.{started, goes_further, weaker, has_now}
+use Rattle.disk_model.proofs.Moments.{started, has_now}
 use Rattle.log_model.specs.plain.Admission.{Item}
 use Rattle.log_model.specs.cleaning.Layout.{alone}
 use Rattle.host_recovery.specs.Lying.{LiesAlone}
@@ -14,314 +15,244 @@ use Rattle.copycat_tool.specs.declared.ending.Ending.{Ending}
 use Rattle.copycat_tool.specs.declared.ending.Ending.TheVariants.{Done, Fault, TooLong, ReadFault, WriteFault, DiskFault, NoMemory, Damaged}
 use Rattle.copycat_tool.specs.declared.lines.Command.{Command}
 use Rattle.copycat_tool.specs.Script.{command}
-use Rattle.copycat_tool.specs.Report.{Run, Answer, Report, Change, Nothing, one, ends, in_front, answers_to, after, changed, items, print_line, printed}
-use Rattle.copycat_tool.specs.Logs.{IsLog}
-use Rattle.copycat_tool.specs.Runs.{Files, HasPrefix, Ended, EndsAs, WhereWhole, Answered, reported, sure}
+use Rattle.copycat_tool.specs.Report.{Run, Act, Report, Change, Nothing, one, ends, in_front, answers_to, after, changed, printed, printed_lines}
+use Rattle.copycat_tool.specs.Runs.{Did, Files, HasPrefix, Ended, EndedSo, EndsAs, IsAnswered, IsInOrder, StandsEither, Wrote, is_by_call, reported}
 use Rattle.copycat_tool.specs.Standing.{IsAt, IsAtRest, IsCut, IsMade}
-use Rattle.copycat_tool.specs.Turning.{HasAnswered, HasEnded, HasRun, IsTurnCut, IsTurned}
-use Rattle.copycat_tool.specs.Calls.{IsUnprinted}
-use Rattle.copycat_tool.proofs.Prefixes.{printed-append, after-append, log_after, all_of, longer, with_less}
-use Rattle.copycat_tool.proofs.Progress.{stays, ends_after}
+use Rattle.copycat_tool.specs.Turning.{Answers, HasAnswered, HasEnded, HasEndedIn, HasRun, HasTurned, IsPut, Turns}
+use Rattle.copycat_tool.specs.Calls.{IsTold}
+use Rattle.copycat_tool.proofs.Following.{did_more, follows_one}
+use Rattle.copycat_tool.proofs.Prefixes.{after-append, either_way, printed-append}
+use Rattle.copycat_tool.proofs.Progress.{at_rest_in_order, did_nothing, stays, ends_after}
+use Rattle.copycat_tool.proofs.Writing.{wrote_none, wrote_more, wrote_as}
 
--- nothing was written
-pub unchanged : (w : Option (List ℕ)) (before : List ℕ) → w ≡ Some before → w ≡ Some (before ++ [])
-unchanged w before is = is ∙ ap (λ (l : List ℕ). Some l) (sym (append-nil before))
+-- what is said of two lists of acts in front of a report
+in_front_of : (a b : List Act) (r : Report) → in_front a (in_front b r) ≡ in_front (a ++ b) r
+in_front_of a b r = ap (λ (l : List Act). record { acts = l; ending = r.ending }) (sym (append_assoc a b r.acts))
 
--- what is said of two lists of answers in front of a report
-in_front_of : (a b : List Answer) (r : Report) → in_front a (in_front b r) ≡ in_front (a ++ b) r
-in_front_of a b r = ap (λ (l : List Answer). record { answers = l; ending = r.ending }) (sym (append_assoc a b r.answers))
-
--- ---- within one answer
+-- ---- within one act
 
 module _ (files : Files) (run : Run) where
-  -- whatever a crash leaves now stands for the log and no more
-  abbrev StaysAt : View → View → Type 0
-  StaysAt v w = LeavesOnly v w (HasPrefix files.name run.log (length run.log))
-
-  -- nothing that changes it was under way
+  -- the call failed, and nothing that changes the log was under way
   pub cut_before : (v w : View) (ending : Ending) → IsCut files v w run Nothing ending → (told : Report) → Ended files run told v w [] ending
   cut_before v w ending cut told = elim cut.ending_is [
-    | inl is ↦ subst (λ (e : Ending). Ended files run told v w [] e) (sym is) (at DiskFault refl refl (λ fact. tt))
-    | inr is ↦ subst (λ (e : Ending). Ended files run told v w [] e) (sym is) (at NoMemory refl refl (λ fact. tt))
+    | inl is ↦ subst (λ (e : Ending). Ended files run told v w [] e) (sym is) (at DiskFault refl refl)
+    | inr is ↦ subst (λ (e : Ending). Ended files run told v w [] e) (sym is) (at NoMemory (inl refl) refl)
   ]
     where
-      at : (e : Ending) → sure e 0 0 ≡ 0 → EndsAs e told 0 0 [] → ((fact : Type 0) → WhereWhole e fact) → Ended files run told v w [] e
-      at e sure_is ends_as layout = record {
-        whole = 0;
-        part = [];
-        text_is = refl;
-        stored = 0;
-        not_behind = omega arith;
-        one_ahead = omega arith;
-        ends_as = ends_as;
-        any_moment = subst (λ (l : List Item). LeavesOnly v w (HasPrefix files.name l (length run.log))) (sym (append-nil run.log)) cut.any_moment;
-        at_exit = record {
-          logged = subst IsLog (sym (append-nil run.log)) cut.logged;
-          each = λ image may. subst (λ (n : ℕ). HasPrefix files.name (run.log ++ []) (length (run.log ++ items (take n told.answers))) image) (sym sure_is)
-              (longer files.name run.log [] _ _ image (omega (arith, length-append run.log (items []))) (has_now v w (HasPrefix files.name run.log (length run.log)) cut.sound cut.any_moment image may));
-          empty = cut.empty;
-        };
-        layout = layout _;
-      }
-
-  module _ (this : Answer) (v w : View) where
-    abbrev next : Run
-    next = changed files.size run this.does
-
-    log_is : next.log ≡ run.log ++ items (this ∷ [])
-    log_is = log_after files.size run (this ∷ [])
-
-    -- it was stored or not, and nothing of its answer was written
-    pub cut_short : (ending : Ending) → IsCut files v w run this.does ending → (rest : Report) → Ended files run (in_front (this ∷ []) rest) v w [] ending
-    cut_short ending cut rest = elim cut.ending_is [
-      | inl is ↦ subst (λ (e : Ending). Ended files run (in_front (this ∷ []) rest) v w [] e) (sym is) (at DiskFault refl refl (λ fact. tt))
-      | inr is ↦ subst (λ (e : Ending). Ended files run (in_front (this ∷ []) rest) v w [] e) (sym is) (at NoMemory refl refl (λ fact. tt))
-    ]
-      where
-        moments : LeavesOnly v w (HasPrefix files.name (run.log ++ items (this ∷ [])) (length run.log))
-        moments = subst (λ (l : List Item). LeavesOnly v w (HasPrefix files.name l (length run.log))) log_is cut.any_moment
-
-        at : (e : Ending) → sure e 0 1 ≡ 0 → EndsAs e (in_front (this ∷ []) rest) 0 1 [] → ((fact : Type 0) → WhereWhole e fact) → Ended files run (in_front (this ∷ []) rest) v w [] e
-        at e sure_is ends_as layout = record {
+      at : (e : Ending) → EndsAs e told 0 0 [] → is_by_call e ≡ true → Ended files run told v w [] e
+      at e ends_as by_call = record {
+        time = cut.any_moment.time;
+        so = record {
           whole = 0;
           part = [];
           text_is = refl;
-          stored = 1;
+          sure = 0;
+          stored = 0;
           not_behind = omega arith;
+          perhaps = omega arith;
           one_ahead = omega arith;
           ends_as = ends_as;
-          any_moment = moments;
+          until = v.moment;
+          by_now = cut.any_moment.time.later;
+          follows = refl;
+          since_then = cut.any_moment.each;
           at_exit = record {
-            logged = subst IsLog log_is cut.logged;
-            each = λ image may. subst (λ (n : ℕ). HasPrefix files.name (run.log ++ items (this ∷ [])) (length (run.log ++ items (take n (this ∷ rest.answers)))) image) (sym sure_is)
-                (with_less files.name _ _ _ image (omega (arith, length-append run.log (items []))) (has_now v w _ cut.sound moments image may));
+            logged = cut.logged;
+            each = λ image may. either_way files.name files.size run Nothing image (has_now v w _ cut.sound cut.any_moment image may);
             empty = cut.empty;
           };
-          layout = layout _;
-        }
-
-    -- it was done, and its answer was written in part
-    pub cut_in_line : IsAtRest files w next → LeavesOnly v w (HasPrefix files.name next.log (length run.log)) → (n : ℕ) → n < length (print_line this) → (rest : Report)
-        → Ended files run (in_front (this ∷ []) rest) v w (take n (print_line this)) WriteFault
-    cut_in_line at_rest moments n lt rest = record {
-      whole = 0;
-      part = take n (print_line this);
-      text_is = refl;
-      stored = 1;
-      not_behind = omega arith;
-      one_ahead = omega arith;
-      ends_as = record { next = this; behind = rest.answers; is_next = refl; count = n; not_all = lt; part_is = refl };
-      any_moment = subst (λ (l : List Item). LeavesOnly v w (HasPrefix files.name l (length run.log))) log_is moments;
-      at_exit = record {
-        logged = subst IsLog log_is at_rest.logged;
-        each = λ image may. subst (λ (l : List Item). HasPrefix files.name l (length l) image) log_is (all_of files.name next.log (length next.log) image (omega arith) (at_rest.kept image may));
-        empty = at_rest.empty;
-      };
-      layout = tt;
-    }
-
--- ---- a call on the host, and its answer
-
-module _ {D : Type 0} (view : D → View) (files : Files) (old new : Seen D Parts) (run : Run) (this : Answer) where
-  -- where nothing is changed, nothing was done
-  pub made_nothing : IsAt view files old run → this.does ≡ Nothing → IsMade view files old old run this
-  made_nothing at is =
-      let P : Change → Type 0 = λ c. IsAt view files old (changed files.size run c) × LeavesOnly (view old.disk) (view old.disk) (HasPrefix files.name (changed files.size run c).log (length run.log)) in
-      let still : P Nothing = (at, started (view old.disk) (HasPrefix files.name run.log (length run.log)) at.rest.sound (λ image may. all_of files.name run.log (length run.log) image (omega arith) (at.rest.kept image may))) in
-      let both : P this.does = subst P (sym is) still in
-      record { at = both.0; any_moment = both.1 }
-
-  module _ (made : IsMade view files old new run this) (before : List ℕ) (written : Option (List ℕ)) where
-    -- it was printed
-    abbrev pub put_whole : (printed : Printed) → printed_text printed ≡ this.text → written ≡ Some (before ++ printed_line printed) → HasAnswered view files (this ∷ []) old new run before written
-    put_whole printed text_is w = record {
-      run' = changed files.size run this.does;
-      text = print_line this;
-      written_is = w ∙ ap (λ (l : List ℕ). Some (before ++ (l ++ 10 ∷ []))) text_is;
-      at = made.at;
-      so = record { text_is = sym (append-nil (print_line this)); run_is = refl; any_moment = made.any_moment };
-    }
-
-    unwritten : written ≡ Some before → HasEnded files (this ∷ []) (view old.disk) (view new.disk) run before written NoMemory
-    unwritten w = record {
-      text = [];
-      written_is = unchanged written before w;
-      ended = cut_short files run this (view old.disk) (view new.disk) NoMemory (record {
-        ending_is = inr refl;
-        sound = made.at.rest.sound;
-        logged = made.at.rest.logged;
-        empty = made.at.rest.empty;
-        any_moment = made.any_moment;
-      });
-    }
-
-    -- no memory was left for it
-    pub unwritten_as : (ending : Ending) → ending ≡ NoMemory → written ≡ Some before → HasEnded files (this ∷ []) (view old.disk) (view new.disk) run before written ending
-    unwritten_as ending is w = subst (HasEnded files (this ∷ []) (view old.disk) (view new.disk) run before written) (sym is) (unwritten w)
-
-    -- it wasn't
-    pub put_part : (ending : Ending) (printed : Printed) → printed_text printed ≡ this.text → IsUnprinted ending (printed_line printed) before written → HasEnded files (this ∷ []) (view old.disk) (view new.disk) run before written ending
-    put_part WriteFault printed text_is un =
-        let line : printed_line printed ≡ print_line this = ap (λ (l : List ℕ). l ++ 10 ∷ []) text_is in
-        record {
-          text = take un.0 (print_line this);
-          written_is = un.2 ∙ ap (λ (l : List ℕ). Some (before ++ take un.0 l)) line;
-          ended = cut_in_line files run this (view old.disk) (view new.disk) made.at.rest made.any_moment un.0 (subst (λ (l : List ℕ). un.0 < length l) line un.1);
-        }
-    put_part NoMemory printed text_is un = unwritten un
-    put_part Done printed text_is un = absurd un
-    put_part (Fault n) printed text_is un = absurd un
-    put_part TooLong printed text_is un = absurd un
-    put_part ReadFault printed text_is un = absurd un
-    put_part DiskFault printed text_is un = absurd un
-    put_part (Damaged base generation at) printed text_is un = absurd un
-
--- the call failed
-pub call_cut : (files : Files) (v w : View) (run : Run) (this : Answer) (ending : Ending) (before : List ℕ) (written : Option (List ℕ)) → IsCut files v w run this.does ending → written ≡ Some before
-    → HasEnded files (this ∷ []) v w run before written ending
-call_cut files v w run this ending before written cut is = record {
-  text = [];
-  written_is = unchanged written before is;
-  ended = cut_short files run this v w ending cut;
-}
-
--- ---- some answers, and then others
-
-module _ {D : Type 0} (view : D → View) (files : Files) (done : List Answer) (old mid : Seen D Parts) (run : Run) (before : List ℕ) (written : Option (List ℕ)) (a : HasAnswered view files done old mid run before written) where
-  pub no_shorter : length run.log ≤ length a.run'.log
-  no_shorter = omega (arith, ap (λ (r : Run). length r.log) a.so.run_is, ap length (log_after files.size run done), length-append run.log (items done))
-
-  abbrev pub then_answered : (more : List Answer) (new : Seen D Parts) (written' : Option (List ℕ)) → HasAnswered view files more mid new a.run' (before ++ a.text) written' → HasAnswered view files (done ++ more) old new run before written'
-  then_answered more new written' b =
-      let log_more : b.run'.log ≡ a.run'.log ++ items more = ap (λ (r : Run). r.log) b.so.run_is ∙ log_after files.size a.run' more in
-      record {
-        run' = b.run';
-        text = a.text ++ b.text;
-        written_is = b.written_is ∙ ap (λ (l : List ℕ). Some l) (append_assoc before a.text b.text);
-        at = b.at;
-        so = record {
-          text_is = ap (λ (l : List ℕ). l ++ b.text) a.so.text_is ∙ ap (λ (l : List ℕ). printed done ++ l) b.so.text_is ∙ sym (printed-append done more);
-          run_is = b.so.run_is ∙ ap (λ (r : Run). after files.size r more) a.so.run_is ∙ after-append files.size run done more;
-          any_moment = goes_further (view old.disk) (view mid.disk) (view new.disk) (HasPrefix files.name b.run'.log (length run.log))
-              (weaker (view old.disk) (view mid.disk) _ _ a.so.any_moment (λ image has. subst (λ (l : List Item). HasPrefix files.name l (length run.log) image) (sym log_more) (longer files.name a.run'.log (items more) _ _ image (omega arith) has)))
-              (weaker (view mid.disk) (view new.disk) _ _ b.so.any_moment (λ image has. with_less files.name b.run'.log _ _ image no_shorter has));
+          layout = λ is. absurd (cc (is, by_call));
         };
       }
 
-  pub then_ended : (more : List Answer) (new : View) (ending : Ending) (written' : Option (List ℕ)) → HasEnded files more (view mid.disk) new a.run' (before ++ a.text) written' ending
-      → HasEnded files (done ++ more) (view old.disk) new run before written' ending
-  then_ended more new ending written' e = record {
-    text = a.text ++ e.text;
-    written_is = e.written_is ∙ ap (λ (l : List ℕ). Some l) (append_assoc before a.text e.text);
-    ended = λ rest. subst (λ (r : Report). Ended files run r (view old.disk) new (a.text ++ e.text) ending) (in_front_of done more rest)
-        (ends_after files run a.run' (view old.disk) (view mid.disk) a.text done a.so.text_is a.so.run_is a.so.any_moment (in_front more rest) new e.text ending (e.ended rest));
+  module _ (this : Act) (v w : View) where
+    abbrev next : Run
+    next = changed files.size run this.does
+
+    -- it was done or not, and none of its lines was written
+    pub cut_short : (ending : Ending) → IsCut files v w run this.does ending → (rest : Report) → Ended files run (in_front (this ∷ []) rest) v w [] ending
+    cut_short ending cut rest = elim cut.ending_is [
+      | inl is ↦ subst (λ (e : Ending). Ended files run (in_front (this ∷ []) rest) v w [] e) (sym is) (at DiskFault refl refl)
+      | inr is ↦ subst (λ (e : Ending). Ended files run (in_front (this ∷ []) rest) v w [] e) (sym is) (at NoMemory (inl refl) refl)
+    ]
+      where
+        at : (e : Ending) → EndsAs e (in_front (this ∷ []) rest) 0 0 [] → is_by_call e ≡ true → Ended files run (in_front (this ∷ []) rest) v w [] e
+        at e ends_as by_call = record {
+          time = cut.any_moment.time;
+          so = record {
+            whole = 0;
+            part = [];
+            text_is = refl;
+            sure = 0;
+            stored = 1;
+            not_behind = omega arith;
+            perhaps = omega arith;
+            one_ahead = omega arith;
+            ends_as = ends_as;
+            until = v.moment;
+            by_now = cut.any_moment.time.later;
+            follows = refl;
+            since_then = cut.any_moment.each;
+            at_exit = record {
+              logged = cut.logged;
+              each = λ image may. either_way files.name files.size run this.does image (has_now v w _ cut.sound cut.any_moment image may);
+              empty = cut.empty;
+            };
+            layout = λ is. absurd (cc (is, by_call));
+          };
+        }
+
+    -- it was done, and not all of its lines were written
+    pub cut_in_lines : (ending : Ending) (part : List ℕ) → is_by_call ending ≡ true → IsAtRest files w next → Did files (this ∷ []) run v w → (rest : Report) → EndsAs ending (in_front (this ∷ []) rest) 0 1 part
+        → Ended files run (in_front (this ∷ []) rest) v w part ending
+    cut_in_lines ending part by_call at_rest did rest ends_as = record {
+      time = did.time;
+      so = record {
+        whole = 0;
+        part = part;
+        text_is = refl;
+        sure = 1;
+        stored = 1;
+        not_behind = omega arith;
+        perhaps = omega arith;
+        one_ahead = omega arith;
+        ends_as = ends_as;
+        until = w.moment;
+        by_now = omega arith;
+        follows = did.follows;
+        since_then = λ image left. inl (at_rest.kept image (at_rest.sound.only_now image left));
+        at_exit = at_rest_in_order files next w at_rest;
+        layout = λ is. absurd (cc (is, by_call));
+      };
+    }
+
+-- ---- a call on the host, and its line
+
+module _ {D : Type 0} (view : D → View) (files : Files) (old new : Seen D Parts) (run : Run) (this : Act) where
+  -- where nothing is changed, nothing was done
+  pub made_nothing : IsAt view files old run → this.does ≡ Nothing → IsMade view files old old run this
+  made_nothing at is =
+      let P : Change → Type 0 = λ c. IsAt view files old (changed files.size run c) × LeavesOnly (view old.disk) (view old.disk) (StandsEither files.name run.log (changed files.size run c).log) in
+      let still : P Nothing = (at, started (view old.disk) (StandsEither files.name run.log run.log) at.rest.sound (λ image may. inl (at.rest.kept image may))) in
+      let both : P this.does = subst P (sym is) still in
+      record { at = both.0; any_moment = both.1 }
+
+  module _ (written written' : Option (List ℕ)) (sink sink' : ℕ) where
+    -- it was done, and its line was printed or not
+    pub put_told : (printed : Printed) → IsTold view files old new run this printed → {T : Type 0} (r : Result T Ending) → IsPut written written' sink sink' (printed_line printed) r
+        → Answers view files (this ∷ []) old new run written written' r
+    put_told printed told (Ok x) wrote = record {
+      at = told.made.at;
+      did = follows_one files (view old.disk) (view new.disk) run this told.made.any_moment;
+      wrote = wrote_as written written' _ _ (ap (λ (l : List (List ℕ)). printed_lines l) (sym told.line_is) ∙ sym (append-nil (printed_lines this.lines))) (wrote_as written written' _ _ (sym (append-nil (printed_line printed))) wrote);
+    }
+    put_told printed told (Err WriteFault) put =
+        let did = follows_one files (view old.disk) (view new.disk) run this told.made.any_moment in
+        let line : printed_line printed ≡ printed_lines this.lines = sym (append-nil (printed_line printed)) ∙ ap (λ (l : List (List ℕ)). printed_lines l) (sym told.line_is) in
+        λ rest. record {
+          text = take put.0.0 (printed_lines this.lines);
+          wrote = wrote_as written written' _ _ (ap (λ (l : List ℕ). take put.0.0 l) line) put.0.2;
+          ended = cut_in_lines files run this (view old.disk) (view new.disk) WriteFault _ refl told.made.at.rest did rest
+              (record { next = this; behind = rest.acts; is_next = refl; count = put.0.0; not_all = subst (λ (l : List ℕ). put.0.0 < length l) line put.0.1; part_is = refl }, refl);
+        }
+    put_told printed told (Err NoMemory) wrote =
+        let did = follows_one files (view old.disk) (view new.disk) run this told.made.any_moment in
+        λ rest. record {
+          text = [];
+          wrote = wrote;
+          ended = cut_in_lines files run this (view old.disk) (view new.disk) NoMemory _ refl told.made.at.rest did rest (inl refl);
+        }
+    put_told printed told (Err Done) put = absurd put
+    put_told printed told (Err (Fault n)) put = absurd put
+    put_told printed told (Err TooLong) put = absurd put
+    put_told printed told (Err ReadFault) put = absurd put
+    put_told printed told (Err DiskFault) put = absurd put
+    put_told printed told (Err (Damaged base generation at)) put = absurd put
+
+-- the call failed
+pub call_cut : {D : Type 0} (view : D → View) (files : Files) (old new : Seen D Parts) (run : Run) (this : Act) (ending : Ending) (written : Option (List ℕ)) → IsCut files (view old.disk) (view new.disk) run this.does ending
+    → HasEnded files (this ∷ []) (view old.disk) (view new.disk) run written written ending
+call_cut view files old new run this ending written cut rest = record { text = []; wrote = wrote_none written; ended = cut_short files run this (view old.disk) (view new.disk) ending cut rest }
+
+-- no memory was left to look
+pub look_cut : {D : Type 0} (view : D → View) (files : Files) (h : Seen D Parts) (run : Run) (this : Act) (ending : Ending) (written : Option (List ℕ)) → IsAt view files h run → ending ≡ NoMemory
+    → HasEnded files (this ∷ []) (view h.disk) (view h.disk) run written written ending
+look_cut view files h run this ending written at is = subst (HasEnded files (this ∷ []) (view h.disk) (view h.disk) run written written) (sym is)
+    (λ rest. record { text = []; wrote = wrote_none written; ended = stays files run (in_front (this ∷ []) rest) (view h.disk) NoMemory at.rest (inl refl) (λ no. absurd (cc no)) })
+
+-- what is told by an act that only looks
+pub looked : {D : Type 0} (view : D → View) (files : Files) (h : Seen D Parts) (run : Run) (this : Act) → IsAt view files h run → this.does ≡ Nothing → (printed : Printed) → this.lines ≡ printed_text printed ∷ []
+    → IsTold view files h h run this printed
+looked view files h run this at does printed line = record { line_is = line; made = made_nothing view files h h run this at does }
+
+-- ---- some acts, and then others
+
+module _ {D : Type 0} (view : D → View) (files : Files) (done : List Act) (old mid : Seen D Parts) (run : Run) (written written' : Option (List ℕ)) (a : HasAnswered view files done old mid run written written') where
+  pub then_answered : (more : List Act) (new : Seen D Parts) (written'' : Option (List ℕ)) → HasAnswered view files more mid new (after files.size run done) written' written'' → HasAnswered view files (done ++ more) old new run written written''
+  then_answered more new written'' b = record {
+    at = subst (IsAt view files new) (after-append files.size run done more) b.at;
+    did = did_more files (view old.disk) (view mid.disk) (view new.disk) run done more a.did b.did;
+    wrote = wrote_as written written'' _ _ (sym (printed-append done more)) (wrote_more written written' written'' (printed done) (printed more) a.wrote b.wrote);
   }
 
--- no answers at all
-abbrev pub nothing_answered : {D : Type 0} (view : D → View) (files : Files) (h : Seen D Parts) (run : Run) (before : List ℕ) (written : Option (List ℕ)) → IsAt view files h run → written ≡ Some before → HasAnswered view files [] h h run before written
-nothing_answered view files h run before written at w = record {
-  run' = run;
-  text = [];
-  written_is = unchanged written before w;
-  at = at;
-  so = record {
-    text_is = refl;
-    run_is = refl;
-    any_moment = started (view h.disk) (HasPrefix files.name run.log (length run.log)) at.rest.sound (λ image may. all_of files.name run.log (length run.log) image (omega arith) (at.rest.kept image may));
-  };
-}
+  pub then_run : (told : Report) (new : View) (ending : Ending) (written'' : Option (List ℕ)) → HasRun files told (view mid.disk) new (after files.size run done) written' written'' ending
+      → HasRun files (in_front done told) (view old.disk) new run written written'' ending
+  then_run told new ending written'' e = record {
+    text = printed done ++ e.text;
+    wrote = wrote_more written written' written'' (printed done) e.text a.wrote e.wrote;
+    ended = ends_after files run done (view old.disk) (view mid.disk) a.did told new e.text ending e.ended;
+  }
+
+  pub then_ended : (more : List Act) (new : View) (ending : Ending) (written'' : Option (List ℕ)) → HasEnded files more (view mid.disk) new (after files.size run done) written' written'' ending
+      → HasEnded files (done ++ more) (view old.disk) new run written written'' ending
+  then_ended more new ending written'' e rest = subst (λ (r : Report). HasRun files r (view old.disk) new run written written'' ending) (in_front_of done more rest)
+      (then_run (in_front more rest) new ending written'' (e rest))
+
+-- no acts at all
+pub nothing_answered : {D : Type 0} (view : D → View) (files : Files) (h : Seen D Parts) (run : Run) (written : Option (List ℕ)) → IsAt view files h run → HasAnswered view files [] h h run written written
+nothing_answered view files h run written at = record { at = at; did = did_nothing files run (view h.disk) at.rest; wrote = wrote_none written }
 
 -- ---- a line
 
-module _ (files : Files) (line : List ℕ) (run : Run) (number : ℕ) (v : View) (at_rest : IsAtRest files v run) (before : List ℕ) (written : Option (List ℕ)) (w : written ≡ Some before) where
+module _ (files : Files) (line : List ℕ) (run : Run) (number : ℕ) (v : View) (at_rest : IsAtRest files v run) (written : Option (List ℕ)) where
   -- it isn't in the grammar
-  pub faulty : None ≡ command line → IsTurnCut files line number v v run before written (Fault number)
-  faulty none = record {
+  pub faulty : None ≡ command line → HasEndedIn files line number v v run written written (Fault number)
+  faulty none rest = record {
     text = [];
-    written_is = unchanged written before w;
-    ended = λ rest. subst (λ (t : Option Command). Ended files run (one files.size t run number rest) v v [] (Fault number)) none
-        (stays files run (ends (Fault number)) v (Fault number) at_rest (record { ending_is = refl; all = refl; nothing_ahead = refl; no_part = refl }) refl at_rest.laid_out);
+    wrote = wrote_none written;
+    ended = subst (λ (t : Option Command). Ended files run (one files.size t run number rest) v v [] (Fault number)) none
+        (stays files run (ends (Fault number)) v (Fault number) at_rest (record { ending_is = refl; all = refl; nothing_ahead = refl; no_part = refl }) (λ is. at_rest.laid_out));
   }
 
   -- no memory was left to read it
-  pub unread : IsTurnCut files line number v v run before written NoMemory
-  unread = record {
+  pub unread : HasEndedIn files line number v v run written written NoMemory
+  unread rest = record {
     text = [];
-    written_is = unchanged written before w;
-    ended = λ rest. stays files run (one files.size (command line) run number rest) v NoMemory at_rest refl refl tt;
+    wrote = wrote_none written;
+    ended = stays files run (one files.size (command line) run number rest) v NoMemory at_rest (inl refl) (λ is. absurd (cc is));
   }
 
--- it is a command, which was answered
-pub line_answered : {D : Type 0} (view : D → View) (files : Files) (line : List ℕ) (asked : Command) (old new : Seen D Parts) (run : Run) (before : List ℕ) (written : Option (List ℕ)) → Some asked ≡ command line
-    → HasAnswered view files (answers_to files.size run asked) old new run before written → IsTurned view files line old new run before written
-line_answered view files line asked old new run before written is a = record {
-  run' = a.run';
-  text = a.text;
-  written_is = a.written_is;
-  at = a.at;
-  answered = record {
-    answers = answers_to files.size run asked;
-    reported = λ number rest.
-        ap (λ (t : Option Command). one files.size t run number rest) (sym is)
-        ∙ ap (λ (r : Run). in_front (answers_to files.size run asked) (rest r)) (sym a.so.run_is);
-    so = a.so;
-  };
+-- it is a command, which was answered, or within which the run ended
+pub line_turned : {D : Type 0} (view : D → View) (files : Files) (line : List ℕ) (number : ℕ) (asked : Command) (old new : Seen D Parts) (run : Run) (written written' : Option (List ℕ)) → Some asked ≡ command line
+    → {T : Type 0} (r : Result T Ending) → Answers view files (answers_to files.size run asked) old new run written written' r → Turns view files line number old new run written written' r
+line_turned view files line number asked old new run written written' is (Ok x) a = record {
+  acts = answers_to files.size run asked;
+  is = λ number rest. ap (λ (t : Option Command). one files.size t run number rest) (sym is);
+  answered = a;
 }
-
--- or within which the run ended
-pub line_cut : (files : Files) (line : List ℕ) (asked : Command) (number : ℕ) (v w : View) (run : Run) (before : List ℕ) (written : Option (List ℕ)) (ending : Ending) → Some asked ≡ command line
-    → HasEnded files (answers_to files.size run asked) v w run before written ending → IsTurnCut files line number v w run before written ending
-line_cut files line asked number v w run before written ending is e = record {
-  text = e.text;
-  written_is = e.written_is;
-  ended = λ rest. subst (λ (t : Option Command). Ended files run (one files.size t run number rest) v w e.text ending) is (e.ended (rest (after files.size run (answers_to files.size run asked))));
-}
+line_turned view files line number asked old new run written written' is (Err ending) e = λ rest.
+    subst (λ (t : Option Command). HasRun files (one files.size t run number rest) (view old.disk) (view new.disk) run written written' ending) is (e (rest (after files.size run (answers_to files.size run asked))))
 
 -- the last line was answered
-pub answered_all : (files : Files) (line : List ℕ) (run : Run) (number : ℕ) (run' : Run) (v w : View) (text : List ℕ) → Answered files line run run' v w text → IsAtRest files w run'
-    → Ended files run (one files.size (command line) run number (λ _. ends Done)) v w text Done
-answered_all files line run number run' v w text answered at_rest =
-    let these : List Answer = answered.answers in
-    let next : Run = after files.size run these in
-    let there : IsAtRest files w next = subst (λ (r : Run). IsAtRest files w r) answered.so.run_is at_rest in
-    let log : next.log ≡ run.log ++ items these = log_after files.size run these in
-    let all : these ≡ take (length these) (these ++ []) = sym (take_all (length these) (these ++ []) (omega (arith, length-append {A = Answer} these [])) ∙ append-nil these) in
-    subst (λ (r : Report). Ended files run r v w text Done) (sym (answered.reported number (λ _. ends Done)))
-    (record {
-      whole = length these;
-      part = [];
-      text_is = answered.so.text_is ∙ ap printed all ∙ sym (append-nil (printed (take (length these) (these ++ []))));
-      stored = length these;
-      not_behind = omega arith;
-      one_ahead = omega arith;
-      ends_as = record { ending_is = refl; all = omega (arith, length-append {A = Answer} these []); nothing_ahead = refl; no_part = refl };
-      any_moment = subst (λ (l : List Answer). LeavesOnly v w (HasPrefix files.name (run.log ++ items l) (length run.log))) all
-          (subst (λ (l : List Item). LeavesOnly v w (HasPrefix files.name l (length run.log))) log
-          (subst (λ (r : Run). LeavesOnly v w (HasPrefix files.name r.log (length run.log))) answered.so.run_is answered.so.any_moment));
-      at_exit = record {
-        logged = subst (λ (l : List Answer). IsLog (run.log ++ items l)) all (subst IsLog log there.logged);
-        each = λ image may. subst (λ (l : List Answer). HasPrefix files.name (run.log ++ items l) (length (run.log ++ items l)) image) all
-            (subst (λ (l : List Item). HasPrefix files.name l (length l) image) log (all_of files.name next.log (length next.log) image (omega arith) (there.kept image may)));
-        empty = there.empty;
-      };
-      layout = subst (λ (l : List Answer). LiesAlone files.name w.reading (alone (after files.size run l).layout)) (sym (append-nil these)) there.laid_out;
-    })
-
--- some answers, and then a run over what is left
-pub then_run : {D : Type 0} (view : D → View) (files : Files) (done : List Answer) (old mid : Seen D Parts) (run : Run) (before : List ℕ) (written : Option (List ℕ)) (a : HasAnswered view files done old mid run before written)
-    → (told : Report) (new : View) (ending : Ending) (written' : Option (List ℕ)) → HasRun files told (view mid.disk) new a.run' (before ++ a.text) written' ending
-    → HasRun files (in_front done told) (view old.disk) new run before written' ending
-then_run view files done old mid run before written a told new ending written' e = record {
-  text = a.text ++ e.text;
-  written_is = e.written_is ∙ ap (λ (l : List ℕ). Some l) (append_assoc before a.text e.text);
-  ended = ends_after files run a.run' (view old.disk) (view mid.disk) a.text done a.so.text_is a.so.run_is a.so.any_moment told new e.text ending e.ended;
-}
-
--- or a run that ended within them
-pub run_cut : (files : Files) (answers : List Answer) (v w : View) (run : Run) (before : List ℕ) (written : Option (List ℕ)) (ending : Ending) (told : Report) → HasEnded files answers v w run before written ending → HasRun files (in_front answers told) v w run before written ending
-run_cut files answers v w run before written ending told e = record { text = e.text; written_is = e.written_is; ended = e.ended told }
-
--- within the opening's line
-pub whole_report : (files : Files) (answers : List Answer) (v w : View) (run : Run) (before : List ℕ) (written : Option (List ℕ)) (ending : Ending) (script : List ℕ) (left : Option (List ℕ)) → HasEnded files answers v w run before written ending
-    → HasRun files (in_front answers (reported files.size ending run script left)) v w run before written ending
-whole_report files answers v w run before written ending script left e = run_cut files answers v w run before written ending (reported files.size ending run script left) e
+pub answered_all : {D : Type 0} (view : D → View) (files : Files) (line : List ℕ) (number : ℕ) (old new : Seen D Parts) (run : Run) (written written' : Option (List ℕ)) → HasTurned view files line old new run written written'
+    → HasRun files (one files.size (command line) run number (λ _. ends Done)) (view old.disk) (view new.disk) run written written' Done
+answered_all view files line number old new run written written' t =
+    let w = view new.disk in
+    let there = after files.size run t.acts in
+    let at_end : HasRun files (ends Done) w w there written' written' Done = record {
+      text = [];
+      wrote = wrote_none written';
+      ended = stays files there (ends Done) w Done t.answered.at.rest (record { ending_is = refl; all = refl; nothing_ahead = refl; no_part = refl }) (λ is. t.answered.at.rest.laid_out);
+    } in
+    subst (λ (r : Report). HasRun files r (view old.disk) w run written written' Done) (sym (t.is number (λ _. ends Done)))
+    (then_run view files t.acts old new run written written' t.answered (ends Done) w Done written' at_end)

@@ -1,5 +1,5 @@
 -- What is printed of the host's answers, and what a call on the host makes of the run that it stands at.
-use Rattle.std.specs.Prelude.{◌≡◌, ◌<◌, ℕ, List, ◌++◌, length, take, Option, Some, None, Result, Ok, Err}
+use Rattle.std.specs.Prelude.{◌≡◌, ◌<◌, ℕ, List, [], ◌∷◌, Option, Some, None, Result, Ok, Err}
 use Rattle.disk_model.specs.View.{View}
 use Rattle.host_types.specs.declared.entry.Refusal.{Refusal}
 use Rattle.script_text.specs.declared.printed.Printed.{Printed}
@@ -15,8 +15,8 @@ use Rattle.resource_catalog.specs.Parts.{Parts}
 use Rattle.copycat_tool.specs.declared.calls.Expiring.{Expiring}
 use Rattle.copycat_tool.specs.declared.calls.Expiring.TheVariants as expirings
 use Rattle.copycat_tool.specs.declared.ending.Ending.{Ending}
-use Rattle.copycat_tool.specs.declared.ending.Ending.TheVariants.{WriteFault, DiskFault, NoMemory}
-use Rattle.copycat_tool.specs.Report.{Run, Answer, Change, Nothing, Stores, expiry, expired_answer}
+use Rattle.copycat_tool.specs.declared.ending.Ending.TheVariants.{DiskFault, NoMemory}
+use Rattle.copycat_tool.specs.Report.{Run, Act, Change, Nothing, Stores, expiry, expired_answer}
 use Rattle.copycat_tool.specs.Runs.{Files}
 use Rattle.copycat_tool.specs.Standing.{IsMade}
 
@@ -54,14 +54,14 @@ expiry_told (Err error) = refused_expiry (error_told error)
 
 -- ---- what an answer means
 
--- the answer's text is printed, and what it tells was done
-pub record IsTold {D : Type 0} (view : D → View) (files : Files) (old new : Seen D Parts) (run : Run) (this : Answer) (printed : Printed) : Type 0 where
-  pub text_is : printed_text printed ≡ this.text
+-- its one line is printed, and what it tells was done
+pub record IsTold {D : Type 0} (view : D → View) (files : Files) (old new : Seen D Parts) (run : Run) (this : Act) (printed : Printed) : Type 0 where
+  pub line_is : this.lines ≡ printed_text printed ∷ []
   pub made : IsMade view files old new run this
 
 -- what is changed by who expires
 abbrev pub change_of : Expiry → ℕ → Change
-change_of (Expires session) time = Stores (Expired time session)
+change_of (Expires session) time = Stores (Expired time session ∷ [])
 change_of _ time = Nothing
 
 -- the session that expires, or why nobody does
@@ -74,11 +74,3 @@ IsExpiring view files old new run time (expirings.Refused why) = (expiry run tim
 abbrev pub HasFewer : Expiring → ℕ → ℕ → Type 0
 HasFewer (expirings.Session index session) old new = new < old
 HasFewer _ old new = Unit {0}
-
--- ---- how it ends a run
-
--- an answer wasn't printed: the sink failed within it, or no memory was left for its text
-abbrev pub IsUnprinted : Ending → List ℕ → List ℕ → Option (List ℕ) → Type 0
-IsUnprinted WriteFault line before written = (n : ℕ) × (n < length line) × (written ≡ Some (before ++ take n line))
-IsUnprinted NoMemory line before written = written ≡ Some before
-IsUnprinted _ line before written = ⊥

@@ -1,30 +1,40 @@
 -- The last line of a run, and its status.
-use Rattle.std.specs.Prelude.{◌≡◌, ◌⊎◌, ℕ, List, ◌++◌, Option, Some}
-use Rattle.disk_model.specs.View.{View}
+use Rattle.std.specs.Prelude.{◌≡◌, ◌≤◌, ◌<◌, ◌⊎◌, ℕ, Bool, true, false, List, Option, IsTrue}
+use Rattle.disk_model.specs.View.{View, GoesOn}
+use Rattle.script_io.specs.Streams.{Rose}
+use Rattle.segment_set.specs.Fits.{KeepsNames}
 use Rattle.copycat_tool.specs.declared.ending.Ending.{Ending}
-use Rattle.copycat_tool.specs.declared.ending.Ending.TheVariants.{Fault, NoMemory, Damaged}
-use Rattle.copycat_tool.specs.Report.{Run, last_line, printed, status_of}
-use Rattle.copycat_tool.specs.Runs.{Closes, Files, Ran}
+use Rattle.copycat_tool.specs.declared.ending.Ending.TheVariants.{Fault, NoMemory, WriteFault, Damaged}
+use Rattle.copycat_tool.specs.Programs.{IsStatus}
+use Rattle.copycat_tool.specs.Report.{Run}
+use Rattle.copycat_tool.specs.Runs.{ClosesAs, Files, RanSo, Wrote}
 
--- no file was found damaged
-abbrev pub IsUndamaged : Ending → Type 0
-IsUndamaged (Damaged base generation at) = ⊥
-IsUndamaged _ = Unit {0}
+-- its last line has a number in it, and takes memory
+abbrev pub is_numbered : Ending → Bool
+is_numbered (Fault n) = true
+is_numbered (Damaged base generation at) = true
+is_numbered _ = false
 
--- The last line of this ending was written. Where no memory was left for the line of a fault in the script, that is told in its stead.
-pub record ClosesRun (ending : Ending) (before : List ℕ) (written : Option (List ℕ)) (status : ℕ) : Type 0 where
+-- The last line of this ending was written. Where no memory was left for one with a number in it, that is told in its stead.
+pub record EndsRun (name : List ℕ) (ending : Ending) (written written' : Option (List ℕ)) (sink sink' status : ℕ) : Type 0 where
   pub told : Ending
-  pub why : (told ≡ ending) ⊎ ((n : ℕ) × (ending ≡ Fault n) × (told ≡ NoMemory))
+  pub why : (told ≡ ending) ⊎ ((is_numbered ending ≡ true) × (told ≡ NoMemory))
   pub text : List ℕ
-  pub written_is : written ≡ Some (before ++ text)
-  pub closes : Closes (printed (last_line told)) (status_of told) status text
+  pub wrote : Wrote written written' text
+  pub closes : ClosesAs name told status text
+  pub sink_fault : status ≡ 5 → (ending ≡ WriteFault) ⊎ Rose sink sink'
 
 -- a run over a log that was opened: what was written in all
-pub record HasClosed (files : Files) (run : Run) (script : List ℕ) (left : Option (List ℕ)) (old new : View) (before : List ℕ) (written : Option (List ℕ)) (status : ℕ) (read_failed disk_failed : Type 0) : Type 0 where
+pub record HasClosed (files : Files) (run : Run) (script : List ℕ) (left : Option (List ℕ)) (old new : View) (written written' : Option (List ℕ)) (status : ℕ) (read_failed disk_failed : Type 0) : Type 0 where
+  pub time : GoesOn old new
   pub text : List ℕ
-  pub written_is : written ≡ Some (before ++ text)
-  pub ran : Ran files run script left old new text status read_failed disk_failed
+  pub wrote : Wrote written written' text
+  pub ran : RanSo files run script left old.moment new text status read_failed disk_failed
 
--- the statuses of a run whose log was opened; over a disk that tells, 7 isn't among them
-abbrev pub IsRunStatus : ℕ → Type 0
-IsRunStatus status = (status ≡ 0) ⊎ (status ≡ 3) ⊎ (status ≡ 4) ⊎ (status ≡ 5) ⊎ (status ≡ 6) ⊎ (status ≡ 7) ⊎ (status ≡ 8)
+-- What is so of every status, over any disk, source and sink.
+pub record HasCauses (read_failed write_failed disk_failed : Type 0) (status : ℕ) : Type 0 where
+  pub read : status ≡ 4 → read_failed
+  pub write : status ≡ 5 → write_failed
+  pub disk : status ≡ 6 → disk_failed
+  pub no_usage : status ≡ 2 → ⊥
+  pub is : IsStatus status

@@ -1,6 +1,8 @@
 pub mod Calls
 pub mod Closing
+pub mod Endings
 pub mod Logs
+pub mod Opened
 pub mod Programs
 pub mod Reading
 pub mod Report

@@ -61,3 +61,13 @@ IsLineWithin (Line n) held = n < length held
 IsLineWithin Last held = Unit {0}
 IsLineWithin Long held = Unit {0}
 IsLineWithin Above held = Unit {0}
+
+-- Of what was left, so many bytes at most were taken: as many as the limit leaves, and one that shows that a script goes on above it.
+pub record IsTaken (taken : ℕ) (left : List ℕ) (now : Option (List ℕ)) : Type 0 where
+  pub count : ℕ
+  pub within : taken + count ≤ script_limit + 1
+  pub rest : now ≡ Some (drop count left)
+
+-- what is read of a script is a front of it, of at most 16,777,217 bytes
+abbrev pub IsFrontOf : List ℕ → Option (List ℕ) → Type 0
+IsFrontOf script now = IsTaken 0 script now

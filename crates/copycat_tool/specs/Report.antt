@@ -29,47 +29,50 @@ pub record Run : Type 0 where
   pub log : List Item
   pub layout : Layout
 
--- what an answer changes of it: an item is stored, or the log is opened again
+-- what one call on the host changes of it: it stores items, all of them or none, or opens the log again
 pub data Change : Type 0 where
   Nothing : Change
-  Stores : Item → Change
+  Stores : List Item → Change
   Reopens : Change
 
--- a printed line, and what was done before it was printed
-pub record Answer : Type 0 where
-  pub text : List ℕ
+-- One call on the host: what it does, and the lines that tell of it, which are printed behind it.
+pub record Act : Type 0 where
   pub does : Change
+  pub lines : List (List ℕ)
+
+-- the files after some items more
+abbrev pub with_items : ℕ → Layout → List Item → Layout
+with_items size layout [] = layout
+with_items size layout (item ∷ items) = with_items size (with_entry size layout) items
 
 -- the run after a change, where a new file has this size; only files that are listed count once the log is opened again
 abbrev pub changed : ℕ → Run → Change → Run
 changed size run Nothing = run
-changed size run (Stores item) = record { log = run.log ++ item ∷ []; layout = with_entry size run.layout }
+changed size run (Stores items) = record { log = run.log ++ items; layout = with_items size run.layout items }
 changed size run Reopens = record { log = run.log; layout = alone run.layout }
 
--- and after these answers
-abbrev pub after : ℕ → Run → List Answer → Run
+-- and after these acts
+abbrev pub after : ℕ → Run → List Act → Run
 after size run [] = run
-after size run (first ∷ rest) = after size (changed size run first.does) rest
+after size run (act ∷ acts) = after size (changed size run act.does) acts
 
-abbrev pub items_of : Change → List Item
-items_of (Stores item) = item ∷ []
-items_of _ = []
+-- each line with its line feed
+abbrev pub printed_lines : List (List ℕ) → List ℕ
+printed_lines [] = []
+printed_lines (line ∷ lines) = (line ++ 10 ∷ []) ++ printed_lines lines
 
--- the items that these answers acknowledge
-abbrev pub items : List Answer → List Item
-items [] = []
-items (first ∷ rest) = items_of first.does ++ items rest
-
-abbrev pub print_line : Answer → List ℕ
-print_line line = line.text ++ 10 ∷ []
-
-abbrev pub printed : List Answer → List ℕ
+-- what is printed of these acts
+abbrev pub printed : List Act → List ℕ
 printed [] = []
-printed (first ∷ rest) = print_line first ++ printed rest
+printed (act ∷ acts) = printed_lines act.lines ++ printed acts
 
--- an answer that changes nothing
-abbrev pub says : Printed → Answer
-says text = record { text = printed_text text; does = Nothing }
+-- one line, which changes nothing
+abbrev pub says : Printed → Act
+says text = record { does = Nothing; lines = printed_text text ∷ [] }
+
+-- one item is stored, and told by one line
+abbrev pub stores : Item → Printed → Act
+stores item text = record { does = Stores (item ∷ []); lines = printed_text text ∷ [] }
 
 -- ---- what is offered
 
@@ -83,8 +86,8 @@ stored_as index (bodies.Register timeout) = prints.Session index
 stored_as index (bodies.Command session seq effect reply) = prints.Replied index reply
 stored_as index _ = prints.Done index
 
-abbrev pub answer_by : Admission → Run → Offer → Answer
-answer_by Admitted run o = record { text = printed_text (stored_as (length run.log + 1) (entry_of (folded run.log) (Offered o)).body); does = Stores (Offered o) }
+abbrev pub answer_by : Admission → Run → Offer → Act
+answer_by Admitted run o = stores (Offered o) (stored_as (length run.log + 1) (entry_of (folded run.log) (Offered o)).body)
 answer_by (Repeats reply) run o = says (prints.Repeat reply)
 answer_by (Refused why) run o = says (prints.Refused why)
 
@@ -105,32 +108,32 @@ expiry_in layout (Not_now why) = Not_now why
 abbrev pub expiry : Run → ℕ → Expiry
 expiry run time = expiry_in run.layout (expires (folded run.log) time)
 
-abbrev pub expired_answer : Run → ℕ → ℕ → Answer
-expired_answer run time session = record { text = printed_text (prints.Expired (length run.log + 1) session); does = Stores (Expired time session) }
+abbrev pub expired_answer : Run → ℕ → ℕ → Act
+expired_answer run time session = stores (Expired time session) (prints.Expired (length run.log + 1) session)
 
-abbrev pub with_expired : Expiry → Run → ℕ → (Answer → List Answer) → List Answer
+abbrev pub with_expired : Expiry → Run → ℕ → (Act → List Act) → List Act
 with_expired (Expires session) run time rest = expired_answer run time session ∷ rest (expired_answer run time session)
 with_expired _ run time rest = []
 
 -- the sessions that expire at a time, one after the other, at most so many
-abbrev pub expired : ℕ → ℕ → Run → ℕ → List Answer
+abbrev pub expired : ℕ → ℕ → Run → ℕ → List Act
 expired size zero run time = []
 expired size (suc n) run time = with_expired (expiry run time) run time (λ this. expired size n (changed size run this.does) time)
 
 -- all of them
-abbrev pub all_expired : ℕ → Run → ℕ → List Answer
+abbrev pub all_expired : ℕ → Run → ℕ → List Act
 all_expired size run time = expired size (length (folded run.log).sessions) run time
 
 -- Where somebody would expire and can't, that is the answer.
-abbrev pub answer_after : Expiry → Run → Offer → Answer
+abbrev pub answer_after : Expiry → Run → Offer → Act
 answer_after (Not_now why) run o = says (prints.Refused why)
 answer_after _ run o = answer_by (admission run o) run o
 
-abbrev pub offer_answer : Run → Offer → Answer
+abbrev pub offer_answer : Run → Offer → Act
 offer_answer run o = answer_after (expiry run o.time) run o
 
 -- first whoever is due expires, and then the offer is answered
-abbrev pub offered : ℕ → Run → Offer → List Answer
+abbrev pub offered : ℕ → Run → Offer → List Act
 offered size run o = all_expired size run o.time ++ offer_answer (after size run (all_expired size run o.time)) o ∷ []
 
 -- ---- the other lines
@@ -139,20 +142,20 @@ abbrev pub shown_as : Result Reply Refusal → Printed
 shown_as (Ok reply) = prints.Answer reply
 shown_as (Err why) = prints.Refused why
 
-abbrev pub look_answer : Run → List ℕ → Op → Answer
+abbrev pub look_answer : Run → List ℕ → Op → Act
 look_answer run name op = says (shown_as (plain_look (folded run.log) name op))
 
-abbrev pub quiet_answer : Run → Answer
+abbrev pub quiet_answer : Run → Act
 quiet_answer run = says (prints.Quiet (quiet run.log))
 
-abbrev pub opening : Run → Answer
+abbrev pub opening : Run → Act
 opening run = says (prints.Opened (length run.log))
 
-abbrev pub reopening : Run → Answer
-reopening run = record { text = printed_text (prints.Opened (length run.log)); does = Reopens }
+abbrev pub reopening : Run → Act
+reopening run = record { does = Reopens; lines = printed_text (prints.Opened (length run.log)) ∷ [] }
 
--- the answers to a line
-abbrev pub answers_to : ℕ → Run → Command → List Answer
+-- the acts that answer a line
+abbrev pub answers_to : ℕ → Run → Command → List Act
 answers_to size run commands.Skip = []
 answers_to size run (commands.Offer o) = offered size run o
 answers_to size run (commands.Ask name op) = look_answer run name op ∷ []
@@ -167,16 +170,16 @@ pub data Cut : Type 0 where
   Broken : Cut
   Above : Cut
 
--- the answers to the lines of a script, and why the run ends then
+-- the acts that answer the lines of a script, and why the run ends then
 pub record Report : Type 0 where
-  pub answers : List Answer
+  pub acts : List Act
   pub ending : Ending
 
 abbrev pub ends : Ending → Report
-ends ending = record { answers = []; ending = ending }
+ends ending = record { acts = []; ending = ending }
 
-abbrev pub in_front : List Answer → Report → Report
-in_front answers report = record { answers = answers ++ report.answers; ending = report.ending }
+abbrev pub in_front : List Act → Report → Report
+in_front acts report = record { acts = acts ++ report.acts; ending = report.ending }
 
 -- One line, and then the rest. Where it isn't in the grammar, the run ends.
 abbrev pub one : ℕ → Option Command → Run → ℕ → (Run → Report) → Report
@@ -208,22 +211,22 @@ full size run script = in_front (opening run ∷ []) (report size run 1 (cut_of 
 
 -- ---- the end
 
-abbrev pub last_text : List ℕ → List Answer
-last_text text = record { text = text; does = Nothing } ∷ []
-
 abbrev pub fault_text : ℕ → List ℕ
 fault_text n = codes "script fault at line " ++ decimal n
 
--- The line that ends a run, if any. A run whose folder stood for a log doesn't end with a damaged file.
-abbrev pub last_line : Ending → List Answer
-last_line Done = []
-last_line (Fault n) = last_text (fault_text n)
-last_line TooLong = last_text (codes "script too long")
-last_line ReadFault = last_text (codes "read fault")
-last_line WriteFault = []
-last_line DiskFault = last_text (codes "disk fault")
-last_line NoMemory = last_text (codes "out of memory")
-last_line (Damaged base generation at) = []
+abbrev pub damaged_text : List ℕ → ℕ → ℕ → ℕ → List ℕ
+damaged_text name base generation at = codes "damaged " ++ name ++ codes "-" ++ decimal base ++ codes "-" ++ decimal generation ++ codes ".log at " ++ decimal at
+
+-- The line that ends a run over the log of this name, if any.
+abbrev pub last_line : List ℕ → Ending → List (List ℕ)
+last_line name Done = []
+last_line name (Fault n) = fault_text n ∷ []
+last_line name TooLong = codes "script too long" ∷ []
+last_line name ReadFault = codes "read fault" ∷ []
+last_line name WriteFault = []
+last_line name DiskFault = codes "disk fault" ∷ []
+last_line name (Damaged base generation at) = damaged_text name base generation at ∷ []
+last_line name NoMemory = codes "out of memory" ∷ []
 
 abbrev pub status_of : Ending → ℕ
 status_of Done = 0
@@ -232,5 +235,5 @@ status_of TooLong = 3
 status_of ReadFault = 4
 status_of WriteFault = 5
 status_of DiskFault = 6
-status_of NoMemory = 8
 status_of (Damaged base generation at) = 7
+status_of NoMemory = 8

@@ -1,7 +1,7 @@
--- How a run over a script ends: what it wrote, and what the disk may stand for.
-use Rattle.std.specs.Prelude.{◌≡◌, ◌<◌, ◌≤◌, ◌⊎◌, ℕ, ◌+◌, ◌-◌, List, [], ◌∷◌, ◌++◌, length, take, drop, Option, Some, None}
+-- How a run over a script goes and ends: what it wrote, and what the disk may stand for meanwhile and then.
+use Rattle.std.specs.Prelude.{◌≡◌, ◌<◌, ◌≤◌, ◌⊎◌, ℕ, ◌+◌, ◌-◌, Bool, true, false, if◌then◌else◌, List, [], ◌∷◌, ◌++◌, length, take, drop, Option, Some, None}
 use Rattle.disk_model.specs.Image.{Image}
-use Rattle.disk_model.specs.View.{View, MayLeave, LeavesOnly}
+use Rattle.disk_model.specs.View.{View, MayLeave, GoesOn}
 use Rattle.segment_set.specs.Fits.{IsEmptyWhereNone}
 use Rattle.log_model.specs.plain.Admission.{Item}
 use Rattle.log_model.specs.cleaning.Layout.{alone}
@@ -10,7 +10,7 @@ use Rattle.copycat_tool.specs.declared.ending.Ending.{Ending}
 use Rattle.copycat_tool.specs.declared.ending.Ending.TheVariants.{Done, Fault, TooLong, ReadFault, WriteFault, DiskFault, NoMemory, Damaged}
 use Rattle.copycat_tool.specs.Script.{script_limit, command}
 use Rattle.copycat_tool.specs.Logs.{IsLog, StandsFor}
-use Rattle.copycat_tool.specs.Report.{Run, Answer, items, one, print_line, printed, after, Report, Broken, report, cut_of, in_front, opening, last_line, status_of}
+use Rattle.copycat_tool.specs.Report.{Run, Act, Cut, one, changed, printed, printed_lines, after, Report, Broken, report, cut_of, in_front, opening, last_line, status_of}
 
 -- the name of a log's files, and the size of a new one
 pub record Files : Type 0 where
@@ -33,89 +33,124 @@ pub record IsInOrder (name : List ℕ) (v : View) (log : List Item) (least : ℕ
   pub each : (image : Image) → MayLeave v image → HasPrefix name log least image
   pub empty : IsEmptyWhereNone v name
 
+-- It is in order for a prefix of the log with at least so many items, all of it.
+pub record IsInOrderFor (name : List ℕ) (v : View) (log : List Item) (least : ℕ) : Type 0 where
+  pub count : ℕ
+  pub enough : least ≤ count
+  pub within : count ≤ length log
+  pub in_order : IsInOrder name v (take count log) count
+
+-- it stands for the one log or for the other
+abbrev pub StandsEither : List ℕ → List Item → List Item → Image → Type 0
+StandsEither name log log' image = StandsFor name image log ⊎ StandsFor name image log'
+
+-- Since a moment a crash leaves the log or the log after a change, until another moment: what is left since then is told elsewhere.
+pub record IsDone (name : List ℕ) (v : View) (log log' : List Item) (since until : ℕ) : Type 0 where
+  pub later : since ≤ until
+  pub each : (image : Image) → v.left_since since image → StandsEither name log log' image ⊎ v.left_since until image
+
+-- The log goes through these acts, one after the other, each between two moments: a crash in the meantime leaves the log without
+-- what the act does or with all of it.
+abbrev pub Follows : Files → View → Run → List Act → ℕ → ℕ → Type 0
+Follows files v run [] since until = since ≡ until
+Follows files v run (act ∷ acts) since until =
+    (next : ℕ) × IsDone files.name v run.log (changed files.size run act.does).log since next × Follows files v (changed files.size run act.does) acts next until
+
 -- WHAT WAS WRITTEN
 
--- a part of the next line was written, and not all of it
-pub record IsPartOfNext (answers : List Answer) (whole : ℕ) (part : List ℕ) : Type 0 where
-  pub next : Answer
-  pub behind : List Answer
-  pub is_next : drop whole answers ≡ next ∷ behind
-  pub count : ℕ
-  pub not_all : count < length (print_line next)
-  pub part_is : part ≡ take count (print_line next)
+-- To a sink that tells this was written.
+abbrev pub Wrote : Option (List ℕ) → Option (List ℕ) → List ℕ → Type 0
+Wrote old new text = (before : List ℕ) → old ≡ Some before → new ≡ Some (before ++ text)
 
--- everything that is reported was written
-pub record IsComplete (ending : Ending) (told : Report) (whole stored : ℕ) (part : List ℕ) : Type 0 where
+-- a part of what the next act prints was written, and not all of it
+pub record IsPartOfNext (acts : List Act) (whole : ℕ) (part : List ℕ) : Type 0 where
+  pub next : Act
+  pub behind : List Act
+  pub is_next : drop whole acts ≡ next ∷ behind
+  pub count : ℕ
+  pub not_all : count < length (printed_lines next.lines)
+  pub part_is : part ≡ take count (printed_lines next.lines)
+
+-- some of its lines were written, each of them whole
+pub record IsSomeLines (acts : List Act) (whole : ℕ) (part : List ℕ) : Type 0 where
+  pub next : Act
+  pub behind : List Act
+  pub is_next : drop whole acts ≡ next ∷ behind
+  pub count : ℕ
+  pub not_all : count < length next.lines
+  pub part_is : part ≡ printed_lines (take count next.lines)
+
+-- everything that is reported was done and written
+pub record IsComplete (ending : Ending) (told : Report) (whole sure : ℕ) (part : List ℕ) : Type 0 where
   pub ending_is : told.ending ≡ ending
-  pub all : whole ≡ length told.answers
-  pub nothing_ahead : stored ≡ whole
+  pub all : whole ≡ length told.acts
+  pub nothing_ahead : sure ≡ whole
   pub no_part : part ≡ []
 
+-- What a run that ends so has written and done. Where the sink failed, the act was done whose lines weren't all written; where the
+-- disk failed nothing was written of the act under way; where no memory was left, the act was under way or some of its lines were
+-- written.
 abbrev pub EndsAs : Ending → Report → ℕ → ℕ → List ℕ → Type 0
-EndsAs Done told whole stored part = IsComplete Done told whole stored part
-EndsAs (Fault n) told whole stored part = IsComplete (Fault n) told whole stored part
-EndsAs TooLong told whole stored part = IsComplete TooLong told whole stored part
-EndsAs ReadFault told whole stored part = IsComplete ReadFault told whole stored part
-EndsAs WriteFault told whole stored part = IsPartOfNext told.answers whole part
-EndsAs DiskFault told whole stored part = part ≡ []
-EndsAs NoMemory told whole stored part = part ≡ []
-EndsAs (Damaged base generation at) told whole stored part = ⊥
+EndsAs Done told whole sure part = IsComplete Done told whole sure part
+EndsAs (Fault n) told whole sure part = IsComplete (Fault n) told whole sure part
+EndsAs TooLong told whole sure part = IsComplete TooLong told whole sure part
+EndsAs ReadFault told whole sure part = IsComplete ReadFault told whole sure part
+EndsAs WriteFault told whole sure part = IsPartOfNext told.acts whole part × (sure ≡ whole + 1)
+EndsAs DiskFault told whole sure part = part ≡ []
+EndsAs NoMemory told whole sure part = (part ≡ []) ⊎ (IsSomeLines told.acts whole part × (sure ≡ whole + 1))
+EndsAs (Damaged base generation at) told whole sure part = ⊥
 
--- the answers whose items are on the disk for sure
-abbrev pub sure : Ending → ℕ → ℕ → ℕ
-sure DiskFault whole stored = whole
-sure NoMemory whole stored = whole
-sure Done whole stored = stored
-sure (Fault n) whole stored = stored
-sure TooLong whole stored = stored
-sure ReadFault whole stored = stored
-sure WriteFault whole stored = stored
-sure (Damaged base generation at) whole stored = whole
+-- whether a call on the disk or the sink, or want of memory, ended the run
+abbrev pub is_by_call : Ending → Bool
+is_by_call WriteFault = true
+is_by_call DiskFault = true
+is_by_call NoMemory = true
+is_by_call (Damaged base generation at) = true
+is_by_call _ = false
 
--- a fact for the endings that no call on the disk or the sink brings about
-abbrev pub WhereWhole : Ending → Type 0 → Type 0
-WhereWhole Done fact = fact
-WhereWhole (Fault n) fact = fact
-WhereWhole TooLong fact = fact
-WhereWhole ReadFault fact = fact
-WhereWhole WriteFault fact = Unit {0}
-WhereWhole DiskFault fact = Unit {0}
-WhereWhole NoMemory fact = Unit {0}
-WhereWhole (Damaged base generation at) fact = Unit {0}
+-- HOW A RUN ENDS
 
--- So many answers were written whole, and then a part of the next line. Each was written before the next item was stored.
--- What a crash left on the way is told by `leaves`.
-pub record EndedSo (files : Files) (run : Run) (told : Report) (leaves : (Image → Type 0) → Type 0) (new : View) (text : List ℕ) (ending : Ending) : Type 0 where
+-- what the log is after so many of the acts that are reported
+abbrev pub log_at : Files → Run → Report → ℕ → List Item
+log_at files run told n = (after files.size run (take n told.acts)).log
+
+-- So many acts were told whole, and of the next one a part. So many are done for sure, and perhaps one more: at most one is ahead of
+-- what is told.
+pub record EndedSo (files : Files) (run : Run) (told : Report) (since : ℕ) (new : View) (text : List ℕ) (ending : Ending) : Type 0 where
   pub whole : ℕ
   pub part : List ℕ
-  pub text_is : text ≡ printed (take whole told.answers) ++ part
-  -- the items of so many answers were stored, or were on the way
+  pub text_is : text ≡ printed (take whole told.acts) ++ part
+  pub sure : ℕ
   pub stored : ℕ
-  pub not_behind : whole ≤ stored
+  pub not_behind : whole ≤ sure
+  pub perhaps : sure ≤ stored
   pub one_ahead : stored ≤ whole + 1
-  pub ends_as : EndsAs ending told whole stored part
-  -- a crash at any moment leaves the log with some of these items, in order
-  pub any_moment : leaves (HasPrefix files.name (run.log ++ items (take stored told.answers)) (length run.log))
-  -- and from now on with at least those that are sure
-  pub at_exit : IsInOrder files.name new (run.log ++ items (take stored told.answers)) (length (run.log ++ items (take (sure ending whole stored) told.answers)))
-  -- the files lie as the report says, with no others beside them
-  pub layout : WhereWhole ending (LiesAlone files.name new.reading (alone (after files.size run told.answers).layout))
+  pub ends_as : EndsAs ending told whole sure part
+  -- the log went through what was done, one act after the other, and since then a crash leaves one of two logs
+  pub until : ℕ
+  pub by_now : until ≤ new.moment
+  pub follows : Follows files new run (take sure told.acts) since until
+  pub since_then : (image : Image) → new.left_since until image → StandsEither files.name (log_at files run told sure) (log_at files run told stored) image
+  -- so the folder is in order
+  pub at_exit : IsInOrder files.name new (log_at files run told stored) (length (log_at files run told sure))
+  -- where nothing failed the files lie as the report says, with no others beside them
+  pub layout : is_by_call ending ≡ false → LiesAlone files.name new.reading (alone (after files.size run told.acts).layout)
 
--- from an old disk to a new one
-abbrev pub Ended : Files → Run → Report → View → View → List ℕ → Ending → Type 0
-Ended files run told old new text ending = EndedSo files run told (LeavesOnly old new) new text ending
+-- These acts were done, from an old moment to a new one.
+pub record Did (files : Files) (acts : List Act) (run : Run) (old new : View) : Type 0 where
+  pub time : GoesOn old new
+  pub follows : Follows files new run acts old.moment new.moment
 
--- these answers were written, and their items stored
-pub record AnsweredSo (files : Files) (answers : List Answer) (run run' : Run) (old new : View) (text : List ℕ) : Type 0 where
-  pub text_is : text ≡ printed answers
-  pub run_is : run' ≡ after files.size run answers
-  pub any_moment : LeavesOnly old new (HasPrefix files.name run'.log (length run.log))
+-- A run ended so, from an old moment to a new one.
+pub record Ended (files : Files) (run : Run) (told : Report) (old new : View) (text : List ℕ) (ending : Ending) : Type 0 where
+  pub time : GoesOn old new
+  pub so : EndedSo files run told old.moment new text ending
 
--- a line was answered, and the run goes on
-pub record Answered (files : Files) (line : List ℕ) (run run' : Run) (old new : View) (text : List ℕ) : Type 0 where
-  pub answers : List Answer
-  pub reported : (number : ℕ) (rest : Run → Report) → one files.size (command line) run number rest ≡ in_front answers (rest run')
-  pub so : AnsweredSo files answers run run' old new text
+-- a line was answered by these acts, whatever comes behind it
+abbrev pub IsAnswered : Files → List ℕ → Run → List Act → Type 0
+IsAnswered files line run acts = (number : ℕ) (rest : Run → Report) → one files.size (command line) run number rest ≡ in_front acts (rest (after files.size run acts))
+
+-- WHAT IS REPORTED
 
 -- what came of a script, of which this is left
 abbrev pub came : List ℕ → Option (List ℕ) → List ℕ
@@ -125,13 +160,7 @@ came script (Some left) = take (length script - length left) script
 -- What is reported of the lines of a script: all of it, or where the source failed what came.
 abbrev pub reported : ℕ → Ending → Run → List ℕ → Option (List ℕ) → Report
 reported size ReadFault run script left = report size run 1 Broken (came script left)
-reported size Done run script left = report size run 1 (cut_of script) (take script_limit script)
-reported size (Fault n) run script left = report size run 1 (cut_of script) (take script_limit script)
-reported size TooLong run script left = report size run 1 (cut_of script) (take script_limit script)
-reported size WriteFault run script left = report size run 1 (cut_of script) (take script_limit script)
-reported size DiskFault run script left = report size run 1 (cut_of script) (take script_limit script)
-reported size NoMemory run script left = report size run 1 (cut_of script) (take script_limit script)
-reported size (Damaged base generation at) run script left = report size run 1 (cut_of script) (take script_limit script)
+reported size _ run script left = report size run 1 (cut_of script) (take script_limit script)
 
 -- with the opening in front
 abbrev pub all_reported : ℕ → Ending → Run → List ℕ → Option (List ℕ) → Report
@@ -143,18 +172,18 @@ all_reported size ending run script left = in_front (opening run ∷ []) (report
 pub record Closes (line : List ℕ) (wanted status : ℕ) (text : List ℕ) : Type 0 where
   pub how : ((status ≡ wanted) × (text ≡ line)) ⊎ ((n : ℕ) × (status ≡ 5) × (n < length line) × (text ≡ take n line))
 
+-- the last line of an ending
+abbrev pub ClosesAs : List ℕ → Ending → ℕ → List ℕ → Type 0
+ClosesAs name ending status text = Closes (printed_lines (last_line name ending)) (status_of ending) status text
+
 -- A run whose log was opened: it answers, ends for some cause, and prints the last line of that cause.
-pub record RanSo (files : Files) (run : Run) (script : List ℕ) (left : Option (List ℕ)) (leaves : (Image → Type 0) → Type 0) (new : View) (text : List ℕ) (status : ℕ) (read_failed disk_failed : Type 0) : Type 0 where
+pub record RanSo (files : Files) (run : Run) (script : List ℕ) (left : Option (List ℕ)) (since : ℕ) (new : View) (text : List ℕ) (status : ℕ) (read_failed disk_failed : Type 0) : Type 0 where
   pub ending : Ending
   pub body : List ℕ
   pub last : List ℕ
   pub text_is : text ≡ body ++ last
-  pub ended : EndedSo files run (all_reported files.size ending run script left) leaves new body ending
+  pub ended : EndedSo files run (all_reported files.size ending run script left) since new body ending
   -- it says so only of a source or a disk that has failed
   pub read_fault : ending ≡ ReadFault → read_failed
   pub disk_fault : ending ≡ DiskFault → disk_failed
-  pub closes : Closes (printed (last_line ending)) (status_of ending) status last
-
--- from an old disk to a new one
-abbrev pub Ran : Files → Run → List ℕ → Option (List ℕ) → View → View → List ℕ → ℕ → Type 0 → Type 0 → Type 0
-Ran files run script left old new text status read_failed disk_failed = RanSo files run script left (LeavesOnly old new) new text status read_failed disk_failed
+  pub closes : ClosesAs files.name ending status last

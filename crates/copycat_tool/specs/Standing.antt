@@ -13,8 +13,8 @@ use Rattle.resource_catalog.specs.Parts.{Parts, cells_of}
 use Rattle.copycat_tool.specs.declared.ending.Ending.{Ending}
 use Rattle.copycat_tool.specs.declared.ending.Ending.TheVariants.{DiskFault, NoMemory}
 use Rattle.copycat_tool.specs.Logs.{IsLog, StandsFor}
-use Rattle.copycat_tool.specs.Report.{Run, Answer, Change, changed}
-use Rattle.copycat_tool.specs.Runs.{Files, HasPrefix}
+use Rattle.copycat_tool.specs.Report.{Run, Act, Change, changed}
+use Rattle.copycat_tool.specs.Runs.{Files, StandsEither}
 
 -- Between two calls: whatever a crash leaves now stands for the log, and its files lie as the run says.
 pub record IsAtRest (files : Files) (v : View) (run : Run) : Type 0 where
@@ -34,10 +34,10 @@ pub record IsAt {D : Type 0} (view : D → View) (files : Files) (h : Seen D Par
   pub file_is : needs_file run.layout ≡ is_none h.parts.tail
   pub rest : IsAtRest files (view h.disk) run
 
--- What this answer tells was done.
-pub record IsMade {D : Type 0} (view : D → View) (files : Files) (old new : Seen D Parts) (run : Run) (this : Answer) : Type 0 where
+-- What this act does was done: meanwhile a crash leaves the log without it or with it.
+pub record IsMade {D : Type 0} (view : D → View) (files : Files) (old new : Seen D Parts) (run : Run) (this : Act) : Type 0 where
   pub at : IsAt view files new (changed files.size run this.does)
-  pub any_moment : LeavesOnly (view old.disk) (view new.disk) (HasPrefix files.name (changed files.size run this.does).log (length run.log))
+  pub any_moment : LeavesOnly (view old.disk) (view new.disk) (StandsEither files.name run.log (changed files.size run this.does).log)
 
 -- The disk failed or no memory was left, and this change was made or not.
 pub record IsCut (files : Files) (old new : View) (run : Run) (change : Change) (ending : Ending) : Type 0 where
@@ -45,4 +45,4 @@ pub record IsCut (files : Files) (old new : View) (run : Run) (change : Change) 
   pub sound : IsSound new
   pub logged : IsLog (changed files.size run change).log
   pub empty : IsEmptyWhereNone new files.name
-  pub any_moment : LeavesOnly old new (HasPrefix files.name (changed files.size run change).log (length run.log))
+  pub any_moment : LeavesOnly old new (StandsEither files.name run.log (changed files.size run change).log)

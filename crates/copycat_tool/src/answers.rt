@@ -1,11 +1,11 @@
 // The lines of a script, one after the other.
-ghost use Rattle.std.specs.Prelude.{◌≡◌, ◌<◌, ◌≤◌, ℕ, List, Option, Some, IsTrue, false};
+ghost use Rattle.std.specs.Prelude.{◌≡◌, ◌≤◌, ℕ, List, Some, Err, IsTrue, Result, false};
 ghost use Rattle.script_io.specs.Streams.{Rose};
-ghost use Rattle.segment_set.specs.Fits.{KeepsNames};
+ghost use Rattle.copycat_tool.specs.Reading.{IsFrontOf};
 ghost use Rattle.copycat_tool.specs.Report.{Run, Whole, last_piece};
 ghost use Rattle.copycat_tool.specs.Runs.{Files, all_reported, reported};
 ghost use Rattle.copycat_tool.specs.Standing.{IsAt};
-ghost use Rattle.copycat_tool.specs.Turning.{HasRun};
+ghost use Rattle.copycat_tool.specs.Turning.{HasRun, KeepsRun, ended_by};
 
 use crate::ending::Ending;
 use crate::reader::{LineReader, Piece, ReadError};
@@ -27,15 +27,9 @@ fn answer_last<D: Disk, O: Sink>(
     out: &mut O,
 ) -> Ending
     requires runs { host.old.stopped ≡ false }
-    ensures ended { IsTrue D.tells → (files : Files) (run : Run) → IsAt D.view files host.old run → (before : List ℕ) → O.written out.old ≡ Some before
-        → HasRun files (last_piece files.size Whole run number piece.now) (D.view host.old.disk) (D.view host.new.disk) run before (O.written out.new) result }
-    ensures others { IsTrue D.tells → KeepsNames (D.view host.old.disk) (D.view host.new.disk) host.old.parts.name }
-    ensures disk_later { D.faults host.old.disk ≤ D.faults host.new.disk }
-    ensures sink_later { O.faults out.old ≤ O.faults out.new }
-    ensures disk { result ≡ Ending.DiskFault → D.faults host.old.disk < D.faults host.new.disk }
-    ensures sink { result ≡ Ending.WriteFault → Rose (O.faults out.old) (O.faults out.new) }
-    ensures source { result ≡ Ending.ReadFault → ⊥ }
-    ensures undamaged { IsTrue D.tells → (base generation at : ℕ) → result ≡ Ending.Damaged base generation at → ⊥ }
+    ensures ended { IsTrue D.tells → (files : Files) (run : Run) → IsAt D.view files host.old run
+        → HasRun files (last_piece files.size Whole run number piece.now) (D.view host.old.disk) (D.view host.new.disk) run (O.written out.old) (O.written out.new) result }
+    ensures keeps { KeepsRun D.tells D.view D.faults host.old host.new (O.faults out.old) (O.faults out.new) ⊥ (ended_by result) }
 {
     if piece.is_empty() {
         return Ending::Done;
@@ -55,16 +49,10 @@ fn answer_lines<I: Source, D: Disk, O: Sink>(
     out: &mut O,
 ) -> Ending
     requires runs { host.old.stopped ≡ false }
-    ensures ended { IsTrue D.tells → (files : Files) (run : Run) → IsAt D.view files host.old run → (bytes before : List ℕ) → I.left script.old ≡ Some bytes → O.written out.old ≡ Some before
-        → HasRun files (reported files.size result run bytes (I.left script.new)) (D.view host.old.disk) (D.view host.new.disk) run before (O.written out.new) result }
-    ensures others { IsTrue D.tells → KeepsNames (D.view host.old.disk) (D.view host.new.disk) host.old.parts.name }
-    ensures disk_later { D.faults host.old.disk ≤ D.faults host.new.disk }
-    ensures sink_later { O.faults out.old ≤ O.faults out.new }
-    ensures disk { result ≡ Ending.DiskFault → D.faults host.old.disk < D.faults host.new.disk }
-    ensures sink { result ≡ Ending.WriteFault → Rose (O.faults out.old) (O.faults out.new) }
-    ensures source_later { I.faults script.old ≤ I.faults script.new }
-    ensures source { result ≡ Ending.ReadFault → Rose (I.faults script.old) (I.faults script.new) }
-    ensures undamaged { IsTrue D.tells → (base generation at : ℕ) → result ≡ Ending.Damaged base generation at → ⊥ }
+    ensures ended { IsTrue D.tells → (files : Files) (run : Run) → IsAt D.view files host.old run → (bytes : List ℕ) → I.left script.old ≡ Some bytes
+        → HasRun files (reported files.size result run bytes (I.left script.new)) (D.view host.old.disk) (D.view host.new.disk) run (O.written out.old) (O.written out.new) result }
+    ensures keeps { KeepsRun D.tells D.view D.faults host.old host.new (O.faults out.old) (O.faults out.new) (Rose (I.faults script.old) (I.faults script.new)) (ended_by result) }
+    ensures front { (bytes : List ℕ) → I.left script.old ≡ Some bytes → IsFrontOf bytes (I.left script.new) }
 {
     let mut reader = LineReader::new(alloc);
     let mut number = 1u64;
@@ -105,16 +93,10 @@ pub fn answer_script<I: Source, D: Disk, O: Sink>(
     out: &mut O,
 ) -> Ending
     requires runs { host.old.stopped ≡ false }
-    ensures ended { IsTrue D.tells → (files : Files) (run : Run) → IsAt D.view files host.old run → (bytes before : List ℕ) → I.left script.old ≡ Some bytes → O.written out.old ≡ Some before
-        → HasRun files (all_reported files.size result run bytes (I.left script.new)) (D.view host.old.disk) (D.view host.new.disk) run before (O.written out.new) result }
-    ensures others { IsTrue D.tells → KeepsNames (D.view host.old.disk) (D.view host.new.disk) host.old.parts.name }
-    ensures disk_later { D.faults host.old.disk ≤ D.faults host.new.disk }
-    ensures sink_later { O.faults out.old ≤ O.faults out.new }
-    ensures disk { result ≡ Ending.DiskFault → D.faults host.old.disk < D.faults host.new.disk }
-    ensures sink { result ≡ Ending.WriteFault → Rose (O.faults out.old) (O.faults out.new) }
-    ensures source_later { I.faults script.old ≤ I.faults script.new }
-    ensures source { result ≡ Ending.ReadFault → Rose (I.faults script.old) (I.faults script.new) }
-    ensures undamaged { IsTrue D.tells → (base generation at : ℕ) → result ≡ Ending.Damaged base generation at → ⊥ }
+    ensures ended { IsTrue D.tells → (files : Files) (run : Run) → IsAt D.view files host.old run → (bytes : List ℕ) → I.left script.old ≡ Some bytes
+        → HasRun files (all_reported files.size result run bytes (I.left script.new)) (D.view host.old.disk) (D.view host.new.disk) run (O.written out.old) (O.written out.new) result }
+    ensures keeps { KeepsRun D.tells D.view D.faults host.old host.new (O.faults out.old) (O.faults out.new) (Rose (I.faults script.old) (I.faults script.new)) (ended_by result) }
+    ensures front { (bytes : List ℕ) → I.left script.old ≡ Some bytes → IsFrontOf bytes (I.left script.new) }
 {
     let mut text = Vec::new(alloc);
     match put_answer(Printed::Opened { last: host.last() }, &mut text, out) {

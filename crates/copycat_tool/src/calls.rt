@@ -1,15 +1,14 @@
 // Calls on the host over the catalog, and what is printed of their answers.
-ghost use Rattle.std.specs.Prelude.{◌≡◌, ◌<◌, ◌≤◌, false, true, IsTrue, ℕ, IfOk, IfErr, OnOk, IsErrOf, Err, length};
+ghost use Rattle.std.specs.Prelude.{◌≡◌, ◌∷◌, [], false, true, IsTrue, ℕ, IfOk, IfErr, OnOk, Err, length};
 ghost use Rattle.host_types.specs.Decision.{is_looking};
-ghost use Rattle.segment_set.specs.Fits.{KeepsNames};
 ghost use Rattle.script_text.specs.Printing.{HasRange, printed_text};
 ghost use Rattle.resource_catalog.specs.PlainNames.{AsksForBuilt};
 ghost use Rattle.copycat_tool.specs.Report.{Run, Nothing, Reopens, Stores, admission, answer_by, expiry, look_answer, quiet_answer, reopening};
 ghost use Rattle.copycat_tool.specs.Runs.{Files};
 ghost use Rattle.copycat_tool.specs.Standing.{IsAt, IsCut};
+ghost use Rattle.copycat_tool.specs.Turning.{KeepsRun};
 ghost use Rattle.copycat_tool.specs.Calls.{HasFewer, IsExpiring, IsTold, change_of, error_told, expiry_told, offer_told, printed_of};
 
-use crate::catalog::catalog_suits;
 use crate::ending::Ending;
 use disk_model::Disk;
 use host_recovery::{Answer, AskError, Host, HostError};
@@ -17,7 +16,6 @@ use host_types::{Index, Key, Offer, Op, Refusal, Time};
 use log_model::logs_are_sound;
 use resource_catalog::{Catalog, logs_of_catalogs_are_plain};
 use script_text::Printed;
-use segment_set::OpenError;
 use std::alloc::Global;
 
 /// Who expired.
@@ -91,13 +89,7 @@ pub fn make_offer<D: Disk>(
         → IfOk result (IsTold D.view files host.old host.new run (answer_by (admission run one.now) run one.now)) }
     ensures cut { IsTrue D.tells → (files : Files) (run : Run) → IsAt D.view files host.old run
         → IfErr result (IsCut files (D.view host.old.disk) (D.view host.new.disk) run (answer_by (admission run one.now) run one.now).does) }
-    ensures source { IsErrOf result Ending.ReadFault → ⊥ }
-    ensures sink { IsErrOf result Ending.WriteFault → ⊥ }
-    ensures undamaged { (base generation at : ℕ) → IsErrOf result (Ending.Damaged base generation at) → ⊥ }
-    ensures others { IsTrue D.tells → KeepsNames (D.view host.old.disk) (D.view host.new.disk) host.old.parts.name }
-    ensures name { host.new.parts.name ≡ host.old.parts.name }
-    ensures later { D.faults host.old.disk ≤ D.faults host.new.disk }
-    ensures disk { IsErrOf result Ending.DiskFault → D.faults host.old.disk < D.faults host.new.disk }
+    ensures keeps { KeepsRun D.tells D.view D.faults host.old host.new 0 0 ⊥ result }
 {
     logs_of_catalogs_are_plain();
     one.fits();
@@ -119,13 +111,7 @@ pub fn expire_next<D: Disk>(
         → IfOk result (IsExpiring D.view files host.old host.new run time) }
     ensures cut { IsTrue D.tells → (files : Files) (run : Run) → IsAt D.view files host.old run
         → IfErr result (IsCut files (D.view host.old.disk) (D.view host.new.disk) run (change_of (expiry run time) time)) }
-    ensures source { IsErrOf result Ending.ReadFault → ⊥ }
-    ensures sink { IsErrOf result Ending.WriteFault → ⊥ }
-    ensures undamaged { (base generation at : ℕ) → IsErrOf result (Ending.Damaged base generation at) → ⊥ }
-    ensures others { IsTrue D.tells → KeepsNames (D.view host.old.disk) (D.view host.new.disk) host.old.parts.name }
-    ensures name { host.new.parts.name ≡ host.old.parts.name }
-    ensures later { D.faults host.old.disk ≤ D.faults host.new.disk }
-    ensures disk { IsErrOf result Ending.DiskFault → D.faults host.old.disk < D.faults host.new.disk }
+    ensures keeps { KeepsRun D.tells D.view D.faults host.old host.new 0 0 ⊥ result }
 {
     logs_of_catalogs_are_plain();
     logs_are_sound();
@@ -145,7 +131,7 @@ pub fn look<D: Disk>(
     requires looks { is_looking op.now ≡ true }
     ensures plain { IfOk result HasRange }
     ensures answered { IsTrue D.tells → (files : Files) (run : Run) → IsAt D.view files host.now run
-        → IfOk result (λ printed. printed_text printed ≡ (look_answer run name.now op.now).text) }
+        → IfOk result (λ printed. (look_answer run name.now op.now).lines ≡ printed_text printed ∷ []) }
     ensures ending { IfErr result (λ ending. ending ≡ Ending.NoMemory) }
 {
     logs_of_catalogs_are_plain();
@@ -162,7 +148,7 @@ pub fn look<D: Disk>(
 pub fn quiet_of<D: Disk>(host: &Host<D, Catalog>) -> Printed
     ensures plain { HasRange result }
     ensures answered { IsTrue D.tells → (files : Files) (run : Run) → IsAt D.view files host.now run
-        → printed_text result ≡ (quiet_answer run).text }
+        → (quiet_answer run).lines ≡ printed_text result ∷ [] }
 {
     logs_of_catalogs_are_plain();
     Printed::Quiet {
@@ -179,32 +165,13 @@ pub fn reopen<D: Disk>(alloc: Global, host: &mut Host<D, Catalog>) -> Result<Pri
         → IfOk result (IsTold D.view files host.old host.new run (reopening run)) }
     ensures cut { IsTrue D.tells → (files : Files) (run : Run) → IsAt D.view files host.old run
         → IfErr result (IsCut files (D.view host.old.disk) (D.view host.new.disk) run Reopens) }
-    ensures source { IsErrOf result Ending.ReadFault → ⊥ }
-    ensures sink { IsErrOf result Ending.WriteFault → ⊥ }
-    ensures undamaged { IsTrue D.tells → (base generation at : ℕ) → IsErrOf result (Ending.Damaged base generation at) → ⊥ }
-    ensures others { IsTrue D.tells → KeepsNames (D.view host.old.disk) (D.view host.new.disk) host.old.parts.name }
-    ensures name { host.new.parts.name ≡ host.old.parts.name }
-    ensures later { D.faults host.old.disk ≤ D.faults host.new.disk }
-    ensures disk { IsErrOf result Ending.DiskFault → D.faults host.old.disk < D.faults host.new.disk }
+    ensures keeps { KeepsRun D.tells D.view D.faults host.old host.new 0 0 ⊥ result }
 {
-    catalog_suits();
     logs_of_catalogs_are_plain();
     let opened = host.reopen(alloc, Catalog::new(alloc));
     host.keeps();
     match opened {
         Ok(()) => Ok(Printed::Opened { last: host.last() }),
-        Err(OpenError::Disk) => Err(Ending::DiskFault),
-        Err(OpenError::NoMemory) => Err(Ending::NoMemory),
-        Err(
-            OpenError::Damaged {
-                base,
-                generation,
-                at,
-            },
-        ) => Err(Ending::Damaged {
-            base,
-            generation,
-            at,
-        }),
+        Err(error) => Err(Ending::of_opening(error)),
     }
 }

@@ -1,16 +1,16 @@
 // The end of a run: its last line and its status.
-ghost use Rattle.std.specs.Prelude.{◌≡◌, ◌<◌, ◌≤◌, ◌++◌, ◌⊎◌, ℕ, List, Option, Some, IsTrue, false};
+ghost use Rattle.std.specs.Prelude.{◌≡◌, ◌<◌, ◌≤◌, ◌⊎◌, ℕ, List, Some, IsTrue, false, length};
 ghost use Rattle.script_io.specs.Streams.{Rose};
 ghost use Rattle.segment_set.specs.Fits.{KeepsNames};
-ghost use Rattle.copycat_tool.specs.Closing.{ClosesRun, HasClosed, IsRunStatus, IsUndamaged};
+ghost use Rattle.copycat_tool.specs.Closing.{EndsRun, HasCauses, HasClosed};
+ghost use Rattle.copycat_tool.specs.Reading.{IsFrontOf};
 ghost use Rattle.copycat_tool.specs.Report.{Run};
-ghost use Rattle.copycat_tool.specs.Runs.{Closes, Files};
+ghost use Rattle.copycat_tool.specs.Runs.{Closes, Files, Wrote};
 ghost use Rattle.copycat_tool.specs.Standing.{IsAt};
 
 use crate::answers::answer_script;
 use crate::ending::Ending;
-use crate::texts::fault_line;
-use crate::unopened::put_damaged;
+use crate::texts::{damaged_line, fault_line};
 use disk_model::Disk;
 use host_recovery::Host;
 use host_types::LogName;
@@ -24,10 +24,9 @@ pub struct Status(pub u8);
 
 /// Prints a last line. The status is 5 where that fails.
 pub(crate) fn put_last<O: Sink>(out: &mut O, line: &[u8], wanted: u8) -> Status
-    ensures closes { (before : List ℕ) → O.written out.old ≡ Some before → (text : List ℕ)
-        × (O.written out.new ≡ Some (before ++ text)) × Closes line.now wanted result.0 text }
+    requires some { 0 < length line.now }
+    ensures closes { (text : List ℕ) × Wrote (O.written out.old) (O.written out.new) text × Closes line.now wanted result.0 text }
     ensures sink { result.0 ≡ 5 → (wanted ≡ 5) ⊎ Rose (O.faults out.old) (O.faults out.new) }
-    ensures status { (result.0 ≡ wanted) ⊎ (result.0 ≡ 5) }
     ensures later { O.faults out.old ≤ O.faults out.new }
 {
     match put_all(out, line) {
@@ -38,12 +37,7 @@ pub(crate) fn put_last<O: Sink>(out: &mut O, line: &[u8], wanted: u8) -> Status
 
 /// Prints the last line of a run that ends so, over the log of this name, and answers its status.
 pub fn close_run<O: Sink>(alloc: Global, name: &LogName, ending: Ending, out: &mut O) -> Status
-    ensures closes { IsUndamaged ending → (before : List ℕ) → O.written out.old ≡ Some before → ClosesRun ending before (O.written out.new) result.0 }
-    ensures read { result.0 ≡ 4 → ending ≡ Ending.ReadFault }
-    ensures write { result.0 ≡ 5 → (ending ≡ Ending.WriteFault) ⊎ Rose (O.faults out.old) (O.faults out.new) }
-    ensures disk { result.0 ≡ 6 → ending ≡ Ending.DiskFault }
-    ensures damaged { result.0 ≡ 7 → IsUndamaged ending → ⊥ }
-    ensures statuses { IsRunStatus result.0 }
+    ensures ends { EndsRun name.now ending (O.written out.old) (O.written out.new) (O.faults out.old) (O.faults out.new) result.0 }
     ensures later { O.faults out.old ≤ O.faults out.new }
 {
     match ending {
@@ -61,7 +55,10 @@ pub fn close_run<O: Sink>(alloc: Global, name: &LogName, ending: Ending, out: &m
             base,
             generation,
             at,
-        } => put_damaged(alloc, name, base, generation, at, out),
+        } => match damaged_line(alloc, name, base, generation, at) {
+            Ok(text) => put_last(out, &text, 7),
+            Err(_) => put_last(out, b"out of memory\n", 8),
+        },
     }
 }
 
@@ -74,16 +71,15 @@ pub fn run_script<I: Source, D: Disk, O: Sink>(
     out: &mut O,
 ) -> Status
     requires runs { host.old.stopped ≡ false }
-    ensures ran { IsTrue D.tells → (files : Files) (run : Run) → IsAt D.view files host.old run → (bytes before : List ℕ) → I.left script.old ≡ Some bytes → O.written out.old ≡ Some before
-        → HasClosed files run bytes (I.left script.new) (D.view host.old.disk) (D.view host.new.disk) before (O.written out.new) result.0
+    requires name { host.old.parts.name ≡ name.now }
+    ensures ran { IsTrue D.tells → (files : Files) (run : Run) → IsAt D.view files host.old run → (bytes : List ℕ) → I.left script.old ≡ Some bytes
+        → HasClosed files run bytes (I.left script.new) (D.view host.old.disk) (D.view host.new.disk) (O.written out.old) (O.written out.new) result.0
         (Rose (I.faults script.old) (I.faults script.new)) (D.faults host.old.disk < D.faults host.new.disk) }
+    ensures causes { HasCauses (Rose (I.faults script.old) (I.faults script.new)) (Rose (O.faults out.old) (O.faults out.new)) (D.faults host.old.disk < D.faults host.new.disk) result.0 }
     ensures others { IsTrue D.tells → KeepsNames (D.view host.old.disk) (D.view host.new.disk) host.old.parts.name }
+    ensures undamaged { result.0 ≡ 7 → IsTrue D.tells → ⊥ }
     ensures later { D.faults host.old.disk ≤ D.faults host.new.disk }
-    ensures read { result.0 ≡ 4 → Rose (I.faults script.old) (I.faults script.new) }
-    ensures write { result.0 ≡ 5 → Rose (O.faults out.old) (O.faults out.new) }
-    ensures disk { result.0 ≡ 6 → D.faults host.old.disk < D.faults host.new.disk }
-    ensures damaged { result.0 ≡ 7 → IsTrue D.tells → ⊥ }
-    ensures statuses { IsRunStatus result.0 }
+    ensures front { (bytes : List ℕ) → I.left script.old ≡ Some bytes → IsFrontOf bytes (I.left script.new) }
 {
     let ending = answer_script(alloc, script, host, out);
     close_run(alloc, name, ending, out)

@@ -1,4 +1,6 @@
 // Why a run over a script ends.
+use segment_set::OpenError;
+
 /// Why a run over a script ends.
 #[derive(Clone, Copy, Debug, PartialEq, Eq)]
 pub enum Ending {
@@ -18,4 +20,28 @@ pub enum Ending {
     NoMemory,
     /// A file of the log isn't right. A log that was opened is so no more only where its disk holds other bytes than it took.
     Damaged { base: u64, generation: u64, at: u64 },
+}
+
+impl Ending {
+    ghost use Rattle.std.specs.Prelude.{◌≡◌};
+    ghost use Rattle.copycat_tool.specs.Endings.{ending_of};
+
+    /// What a log that couldn't be opened is to the run.
+    pub fn of_opening(error: OpenError) -> Ending
+        ensures { result ≡ ending_of error }
+    {
+        match error {
+            OpenError::Disk => Ending::DiskFault,
+            OpenError::Damaged {
+                base,
+                generation,
+                at,
+            } => Ending::Damaged {
+                base,
+                generation,
+                at,
+            },
+            OpenError::NoMemory => Ending::NoMemory,
+        }
+    }
 }

@@ -2,17 +2,18 @@
 ghost use Rattle.std.specs.Prelude.{◌≡◌, ◌<◌, ◌≤◌, ◌++◌, ◌⊎◌, ℕ, List, None, Some, IsTrue, map};
 ghost use Rattle.script_io.specs.Streams.{Rose};
 ghost use Rattle.disk_model.specs.declared.file_id.FileId.{FileId};
-ghost use Rattle.disk_model.specs.View.{LeavesAt, MayHold};
 ghost use Rattle.segment_files.specs.Folder.{folder, IsFault};
-ghost use Rattle.segment_set.specs.Fits.{IsEmptyWhereNone, KeepsNames};
+ghost use Rattle.segment_set.specs.Fits.{KeepsNames};
 ghost use Rattle.log_model.specs.plain.Admission.{Item};
+ghost use Rattle.copycat_tool.specs.Closing.{HasCauses};
+ghost use Rattle.copycat_tool.specs.Reading.{IsFrontOf};
 ghost use Rattle.copycat_tool.specs.Words.{asks, asked_of};
-ghost use Rattle.copycat_tool.specs.Runs.{Closes, IsInOrder};
-ghost use Rattle.copycat_tool.specs.Programs.{IsStatus, RunsInOrder, TellsDamage, TellsUnopened, usage_line};
+ghost use Rattle.copycat_tool.specs.Runs.{Closes, IsInOrder, Wrote};
+ghost use Rattle.copycat_tool.specs.Programs.{IsStatus, RunsInOrder, StaysDamaged, usage_line};
 
 use crate::catalog::catalog_suits;
-use crate::closing::{Status, put_last, run_script};
-use crate::unopened::close_unopened;
+use crate::closing::{Status, close_run, put_last, run_script};
+use crate::ending::Ending;
 use crate::words::{USAGE, read_words};
 use disk_model::Disk;
 use host_recovery::Host;
@@ -32,22 +33,15 @@ fn run_log<I: Source, D: Disk, O: Sink>(
 ) -> (Status, D)
     requires least { 2 ≤ size }
     requires most { size ≤ 65536 }
-    ensures ran { IsTrue D.tells → (log : List Item) (least : ℕ) → IsInOrder name.now (D.view disk) log least → (bytes before : List ℕ) → I.left script.old ≡ Some bytes → O.written out.old ≡ Some before
-        → RunsInOrder (record { name = name.now; size = size }) log least bytes (I.left script.new) (D.view disk) (D.view result.1) before (O.written out.new) result.0.0
+    ensures ran { IsTrue D.tells → (log : List Item) (least : ℕ) → IsInOrder name.now (D.view disk) log least → (bytes : List ℕ) → I.left script.old ≡ Some bytes
+        → RunsInOrder (record { name = name.now; size = size }) log least bytes (I.left script.new) (D.view disk) (D.view result.1) (O.written out.old) (O.written out.new) result.0.0
         (Rose (I.faults script.old) (I.faults script.new)) (D.faults disk < D.faults result.1) }
-    ensures damaged { result.0.0 ≡ 7 → IsTrue D.tells → (before : List ℕ) → O.written out.old ≡ Some before
-        → TellsDamage name.now (D.view disk) (D.view result.1) before (O.written out.new) }
-    ensures damage_told { IsTrue D.tells → (id : FileId) → IsFault (folder name.now (D.view disk).reading) id → (result.0.0 ≡ 7) ⊎ (result.0.0 ≡ 5) ⊎ (result.0.0 ≡ 6) ⊎ (result.0.0 ≡ 8) }
-    ensures unopened { IsTrue D.tells → (id : FileId) → IsFault (folder name.now (D.view disk).reading) id
-        → (script.new ≡ script.old) × ((before : List ℕ) → O.written out.old ≡ Some before → TellsUnopened name.now before (O.written out.new) result.0.0) }
-    ensures unharmed { IsTrue D.tells → (id : FileId) → IsFault (folder name.now (D.view disk).reading) id
-        → ((D.view result.1).reading ≡ (D.view disk).reading) × LeavesAt (D.view disk) (D.view result.1) (MayHold (D.view disk)) }
+    ensures faulty { IsTrue D.tells → (id : FileId) → IsFault (folder name.now (D.view disk).reading) id
+        → StaysDamaged name.now (I.left script.old) (I.left script.new) (D.view disk) (D.view result.1) (O.written out.old) (O.written out.new) result.0.0 (D.faults disk < D.faults result.1) }
+    ensures damaged { result.0.0 ≡ 7 → IsTrue D.tells → (id : FileId) × IsFault (folder name.now (D.view disk).reading) id }
     ensures others { IsTrue D.tells → KeepsNames (D.view disk) (D.view result.1) name.now }
-    ensures read { result.0.0 ≡ 4 → Rose (I.faults script.old) (I.faults script.new) }
-    ensures write { result.0.0 ≡ 5 → Rose (O.faults out.old) (O.faults out.new) }
-    ensures disk { result.0.0 ≡ 6 → D.faults disk < D.faults result.1 }
-    ensures no_usage { result.0.0 ≡ 2 → ⊥ }
-    ensures statuses { IsStatus result.0.0 }
+    ensures causes { HasCauses (Rose (I.faults script.old) (I.faults script.new)) (Rose (O.faults out.old) (O.faults out.new)) (D.faults disk < D.faults result.1) result.0.0 }
+    ensures front { (bytes : List ℕ) → I.left script.old ≡ Some bytes → IsFrontOf bytes (I.left script.new) }
 {
     catalog_suits();
     logs_of_catalogs_are_plain();
@@ -57,7 +51,7 @@ fn run_log<I: Source, D: Disk, O: Sink>(
             let status = run_script(alloc, name, script, &mut host, out);
             (status, host.close())
         }
-        Err((disk, error)) => (close_unopened(alloc, name, error, out), disk),
+        Err((disk, error)) => (close_run(alloc, name, Ending::of_opening(error), out), disk),
     }
 }
 
@@ -71,30 +65,29 @@ pub fn run<I: Source, D: Disk, O: Sink>(
     out: &mut O,
 ) -> (Status, D)
     // The words are no command exactly where the usage line is printed.
-    ensures usage { asked_of (map (λ w. w.items) words.now) ≡ None → (before : List ℕ) → O.written out.old ≡ Some before → (text : List ℕ)
-        × (O.written out.new ≡ Some (before ++ text)) × Closes usage_line 2 result.0.0 text }
+    ensures usage { asked_of (map (λ w. w.items) words.now) ≡ None → (text : List ℕ) × Wrote (O.written out.old) (O.written out.new) text × Closes usage_line 2 result.0.0 text }
     ensures usage_only { result.0.0 ≡ 2 → asked_of (map (λ w. w.items) words.now) ≡ None }
     ensures untouched { asked_of (map (λ w. w.items) words.now) ≡ None → (result.1 ≡ disk) × (script.new ≡ script.old) }
 
     // A folder that is in order for a log, whatever a crash leaves of it: what is printed, what the files stand for while it runs, and
     // for which log the folder is in order then.
     ensures ran { IsTrue D.tells → (name : List ℕ) (size : ℕ) → asked_of (map (λ w. w.items) words.now) ≡ Some (asks name size)
-        → (log : List Item) (least : ℕ) → IsInOrder name (D.view disk) log least → (bytes before : List ℕ) → I.left script.old ≡ Some bytes → O.written out.old ≡ Some before
-        → RunsInOrder (record { name = name; size = size }) log least bytes (I.left script.new) (D.view disk) (D.view result.1) before (O.written out.new) result.0.0
+        → (log : List Item) (least : ℕ) → IsInOrder name (D.view disk) log least → (bytes : List ℕ) → I.left script.old ≡ Some bytes
+        → RunsInOrder (record { name = name; size = size }) log least bytes (I.left script.new) (D.view disk) (D.view result.1) (O.written out.old) (O.written out.new) result.0.0
         (Rose (I.faults script.old) (I.faults script.new)) (D.faults disk < D.faults result.1) }
 
-    // A folder that isn't right is told as such, or some other status has its cause, and nothing else is told; it is left as it is,
-    // whatever a crash leaves.
-    ensures damaged { result.0.0 ≡ 7 → IsTrue D.tells → (name before : List ℕ) (size : ℕ) → asked_of (map (λ w. w.items) words.now) ≡ Some (asks name size) → O.written out.old ≡ Some before
-        → TellsDamage name (D.view disk) (D.view result.1) before (O.written out.new) }
-    ensures damage_told { IsTrue D.tells → (name : List ℕ) (size : ℕ) (id : FileId) → asked_of (map (λ w. w.items) words.now) ≡ Some (asks name size) → IsFault (folder name (D.view disk).reading) id
-        → (result.0.0 ≡ 7) ⊎ (result.0.0 ≡ 5) ⊎ (result.0.0 ≡ 6) ⊎ (result.0.0 ≡ 8) }
-    ensures unopened { IsTrue D.tells → (name : List ℕ) (size : ℕ) (id : FileId) → asked_of (map (λ w. w.items) words.now) ≡ Some (asks name size) → IsFault (folder name (D.view disk).reading) id
-        → (script.new ≡ script.old) × ((before : List ℕ) → O.written out.old ≡ Some before → TellsUnopened name before (O.written out.new) result.0.0) }
-    ensures unharmed { IsTrue D.tells → (name : List ℕ) (size : ℕ) (id : FileId) → asked_of (map (λ w. w.items) words.now) ≡ Some (asks name size) → IsFault (folder name (D.view disk).reading) id
-        → ((D.view result.1).reading ≡ (D.view disk).reading) × LeavesAt (D.view disk) (D.view result.1) (MayHold (D.view disk)) }
+    // A folder that isn't right isn't opened: why is told in one line, and nothing else. It is left as it is, whatever a crash leaves. Only
+    // of such a folder a file is told to be damaged.
+    ensures faulty { IsTrue D.tells → (name : List ℕ) (size : ℕ) (id : FileId) → asked_of (map (λ w. w.items) words.now) ≡ Some (asks name size) → IsFault (folder name (D.view disk).reading) id
+        → StaysDamaged name (I.left script.old) (I.left script.new) (D.view disk) (D.view result.1) (O.written out.old) (O.written out.new) result.0.0 (D.faults disk < D.faults result.1) }
+    ensures damaged { result.0.0 ≡ 7 → IsTrue D.tells → (name : List ℕ) (size : ℕ) → asked_of (map (λ w. w.items) words.now) ≡ Some (asks name size)
+        → (id : FileId) × IsFault (folder name (D.view disk).reading) id }
 
+    // Files of other names stay as they are.
     ensures others { IsTrue D.tells → (name : List ℕ) (size : ℕ) → asked_of (map (λ w. w.items) words.now) ≡ Some (asks name size) → KeepsNames (D.view disk) (D.view result.1) name }
+
+    // Of the script a front is read, of at most 16,777,217 bytes.
+    ensures front { (bytes : List ℕ) → I.left script.old ≡ Some bytes → IsFrontOf bytes (I.left script.new) }
 
     // A fault is told only of what has failed.
     ensures read { result.0.0 ≡ 4 → Rose (I.faults script.old) (I.faults script.new) }

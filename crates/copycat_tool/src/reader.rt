@@ -3,7 +3,7 @@
 ghost use Rattle.std.specs.Prelude.{◌≡◌, ◌<◌, ◌≤◌, ◌⊎◌, ◌+◌, ◌++◌, ℕ, List, [], Some, Ok, Err, false, length, take, drop, vec_len, MatchOption, IfSome, IfNone, IfOk, OnOk, IsErrOf};
 ghost use Rattle.script_io.specs.Streams.{Rose};
 ghost use Rattle.copycat_tool.specs.Script.{has_feed};
-ghost use Rattle.copycat_tool.specs.Reading.{EndsAt, Finds, IsLineWithin, IsPiece, IsShort, TakesMore};
+ghost use Rattle.copycat_tool.specs.Reading.{EndsAt, Finds, IsLineWithin, IsPiece, IsShort, IsTaken, TakesMore};
 ghost use Rattle.copycat_tool.specs.declared.reader.ReadError.TheVariants.{Failed, NoMemory};
 
 use crate::held::Held;
@@ -101,6 +101,7 @@ impl LineReader {
         ensures held { IfOk result (λ n. n ≡ 0 → self.new.held ≡ self.old.held) }
         ensures failed { IsErrOf result ReadError.Failed → (self.new.held ≡ self.old.held) × (self.new.taken ≡ self.old.taken) }
         ensures kept { (left : List ℕ) → I.left script.old ≡ Some left → IsErrOf result ReadError.Failed → I.left script.new ≡ Some left }
+        ensures taken { (left : List ℕ) → I.left script.old ≡ Some left → IsTaken self.old.taken left (I.left script.new) }
         ensures later { I.faults script.old ≤ I.faults script.new }
         ensures cause { IsErrOf result ReadError.Failed → Rose (I.faults script.old) (I.faults script.new) }
     {
@@ -140,6 +141,7 @@ impl LineReader {
             → IfOk result (λ piece. Finds left self.old.held self.new.held self.old.taken self.new.taken (I.left script.new) (Ok piece)) }
         ensures failed { (left : List ℕ) → I.left script.old ≡ Some left → IsErrOf result ReadError.Failed
             → Finds left self.old.held self.new.held self.old.taken self.new.taken (I.left script.new) (Err ReadError.Failed) }
+        ensures front { (left : List ℕ) → I.left script.old ≡ Some left → IsTaken self.old.taken left (I.left script.new) }
         ensures later { I.faults script.old ≤ I.faults script.new }
         ensures cause { IsErrOf result ReadError.Failed → Rose (I.faults script.old) (I.faults script.new) }
         ensures taken { OnOk result (self.old.taken ≤ self.new.taken) }
@@ -167,6 +169,7 @@ impl LineReader {
         ensures at_end { (left : List ℕ) → I.left script.old ≡ Some left → result ≡ Ok Piece.Last → (left ≡ []) × (I.left script.new ≡ Some left) }
         ensures above { (left : List ℕ) → I.left script.old ≡ Some left → result ≡ Ok Piece.Above → 0 < length left }
         ensures failed { (left : List ℕ) → I.left script.old ≡ Some left → IsErrOf result ReadError.Failed → I.left script.new ≡ Some left }
+        ensures taken { (left : List ℕ) → I.left script.old ≡ Some left → IsTaken self.now.taken left (I.left script.new) }
         ensures kinds { (result ≡ Ok Piece.Last) ⊎ (result ≡ Ok Piece.Above) ⊎ (result ≡ Err ReadError.Failed) }
         ensures later { I.faults script.old ≤ I.faults script.new }
         ensures cause { IsErrOf result ReadError.Failed → Rose (I.faults script.old) (I.faults script.new) }

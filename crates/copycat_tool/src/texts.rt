@@ -2,9 +2,9 @@
 ghost use Rattle.std.specs.Prelude.{◌≡◌, ◌∷◌, ◌++◌, [], IfOk, OnOk};
 ghost use Rattle.std.specs.String.{string_bytes};
 ghost use Rattle.script_text.specs.Printing.{HasRange, printed_line};
-ghost use Rattle.copycat_tool.specs.Report.{fault_text};
+ghost use Rattle.copycat_tool.specs.Report.{damaged_text, fault_text};
 
-use host_types::NoMemory;
+use host_types::{LogName, NoMemory};
 use script_text::{Printed, print};
 use std::alloc::{AllocError, Global};
 
@@ -22,4 +22,22 @@ pub fn fault_line(alloc: Global, line: u64) -> Result<String, AllocError>
     ensures { IfOk result (λ text. string_bytes text ≡ fault_text line ++ 10 ∷ []) }
 {
     format!(in alloc; "script fault at line {line}\n")
+}
+
+/// The line that names a file that isn't right.
+pub fn damaged_line(
+    alloc: Global,
+    name: &LogName,
+    base: u64,
+    generation: u64,
+    at: u64,
+) -> Result<Vec<u8>, AllocError>
+    ensures { IfOk result (λ text. text.items ≡ damaged_text name.now base generation at ++ 10 ∷ []) }
+{
+    let rest = format!(in alloc; "-{base}-{generation}.log at {at}\n")?;
+    let mut text = Vec::new(alloc);
+    text.extend_from_slice(b"damaged ")?;
+    text.extend_from_slice(name.bytes())?;
+    text.extend_from_slice(rest.as_bytes())?;
+    Ok(text)
 }

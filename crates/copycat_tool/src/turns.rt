@@ -1,16 +1,13 @@
 // One line of a script: it is answered, or the run ends there.
-ghost use Rattle.std.specs.Prelude.{◌≡◌, ◌<◌, ◌≤◌, ◌++◌, ◌∷◌, [], ℕ, List, Some, IsTrue, OnOk, IfOk, IfErr, IsErrOf, false, true};
+ghost use Rattle.std.specs.Prelude.{◌≡◌, ◌≤◌, ◌∷◌, [], IsTrue, OnOk, false, true};
 ghost use Rattle.host_types.specs.Decision.{is_looking};
-ghost use Rattle.script_io.specs.Streams.{Rose};
 ghost use Rattle.script_text.specs.Printing.{HasRange, printed_line};
-ghost use Rattle.segment_set.specs.Fits.{KeepsNames};
 ghost use Rattle.resource_catalog.specs.PlainNames.{AsksForBuilt};
-ghost use Rattle.copycat_tool.specs.Calls.{IsUnprinted};
 ghost use Rattle.copycat_tool.specs.Script.{IsFit};
-ghost use Rattle.copycat_tool.specs.Report.{Run, admission, all_expired, answer_by, answers_to, look_answer, offered, reopening};
+ghost use Rattle.copycat_tool.specs.Report.{Run, admission, answer_by, answers_to, look_answer, offered, reopening};
 ghost use Rattle.copycat_tool.specs.Runs.{Files};
 ghost use Rattle.copycat_tool.specs.Standing.{IsAt};
-ghost use Rattle.copycat_tool.specs.Turning.{HasAnswered, HasEnded, HasExpired, IsTurnCut, IsTurned};
+ghost use Rattle.copycat_tool.specs.Turning.{Answers, Expires_all, IsPut, KeepsRun, Turns};
 
 use crate::calls::{Expiring, expire_next, look, make_offer, quiet_of, reopen};
 use crate::ending::Ending;
@@ -27,13 +24,8 @@ use std::alloc::Global;
 /// Prints an answer, by way of `text`, which is room for one line that is used again for each.
 pub fn put_answer<O: Sink>(answer: Printed, text: &mut Vec<u8>, out: &mut O) -> Result<(), Ending>
     requires { HasRange answer }
-    ensures whole { (before : List ℕ) → O.written out.old ≡ Some before → OnOk result (O.written out.new ≡ Some (before ++ printed_line answer)) }
-    ensures part { (before : List ℕ) → O.written out.old ≡ Some before → IfErr result (λ ending. IsUnprinted ending (printed_line answer) before (O.written out.new)) }
-    ensures sink_later { O.faults out.old ≤ O.faults out.new }
-    ensures disk { IsErrOf result Ending.DiskFault → ⊥ }
-    ensures sink { IsErrOf result Ending.WriteFault → Rose (O.faults out.old) (O.faults out.new) }
-    ensures source { IsErrOf result Ending.ReadFault → ⊥ }
-    ensures undamaged { (base generation at : ℕ) → IsErrOf result (Ending.Damaged base generation at) → ⊥ }
+    ensures put { IsPut (O.written out.old) (O.written out.new) (O.faults out.old) (O.faults out.new) (printed_line answer) result }
+    ensures later { O.faults out.old ≤ O.faults out.new }
 {
     let Ok(()) = line_of(answer, text) else {
         return Err(Ending::NoMemory);
@@ -54,18 +46,9 @@ fn expire_all<D: Disk, O: Sink>(
 ) -> Result<Option<Refusal>, Ending>
     requires runs { host.old.stopped ≡ false }
     ensures runs { OnOk result (host.new.stopped ≡ false) }
-    ensures answered { IsTrue D.tells → (files : Files) (run : Run) → IsAt D.view files host.old run → (before : List ℕ) → O.written out.old ≡ Some before
-        → IfOk result (HasExpired D.view files time host.old host.new run before (O.written out.new)) }
-    ensures ended { IsTrue D.tells → (files : Files) (run : Run) → IsAt D.view files host.old run → (before : List ℕ) → O.written out.old ≡ Some before
-        → IfErr result (HasEnded files (all_expired files.size run time) (D.view host.old.disk) (D.view host.new.disk) run before (O.written out.new)) }
-    ensures others { IsTrue D.tells → KeepsNames (D.view host.old.disk) (D.view host.new.disk) host.old.parts.name }
-    ensures name { host.new.parts.name ≡ host.old.parts.name }
-    ensures disk_later { D.faults host.old.disk ≤ D.faults host.new.disk }
-    ensures sink_later { O.faults out.old ≤ O.faults out.new }
-    ensures disk { IsErrOf result Ending.DiskFault → D.faults host.old.disk < D.faults host.new.disk }
-    ensures sink { IsErrOf result Ending.WriteFault → Rose (O.faults out.old) (O.faults out.new) }
-    ensures source { IsErrOf result Ending.ReadFault → ⊥ }
-    ensures undamaged { IsTrue D.tells → (base generation at : ℕ) → IsErrOf result (Ending.Damaged base generation at) → ⊥ }
+    ensures expires { IsTrue D.tells → (files : Files) (run : Run) → IsAt D.view files host.old run
+        → Expires_all D.view files time host.old host.new run (O.written out.old) (O.written out.new) result }
+    ensures keeps { KeepsRun D.tells D.view D.faults host.old host.new (O.faults out.old) (O.faults out.new) ⊥ result }
 {
     loop {
         match expire_next(alloc, time, host) {
@@ -93,18 +76,9 @@ fn answer_offer<D: Disk, O: Sink>(
     requires runs { host.old.stopped ≡ false }
     requires built { AsksForBuilt one.now.ask }
     ensures runs { OnOk result (host.new.stopped ≡ false) }
-    ensures answered { IsTrue D.tells → (files : Files) (run : Run) → IsAt D.view files host.old run → (before : List ℕ) → O.written out.old ≡ Some before
-        → OnOk result (HasAnswered D.view files (answer_by (admission run one.now) run one.now ∷ []) host.old host.new run before (O.written out.new)) }
-    ensures ended { IsTrue D.tells → (files : Files) (run : Run) → IsAt D.view files host.old run → (before : List ℕ) → O.written out.old ≡ Some before
-        → IfErr result (HasEnded files (answer_by (admission run one.now) run one.now ∷ []) (D.view host.old.disk) (D.view host.new.disk) run before (O.written out.new)) }
-    ensures others { IsTrue D.tells → KeepsNames (D.view host.old.disk) (D.view host.new.disk) host.old.parts.name }
-    ensures name { host.new.parts.name ≡ host.old.parts.name }
-    ensures disk_later { D.faults host.old.disk ≤ D.faults host.new.disk }
-    ensures sink_later { O.faults out.old ≤ O.faults out.new }
-    ensures disk { IsErrOf result Ending.DiskFault → D.faults host.old.disk < D.faults host.new.disk }
-    ensures sink { IsErrOf result Ending.WriteFault → Rose (O.faults out.old) (O.faults out.new) }
-    ensures source { IsErrOf result Ending.ReadFault → ⊥ }
-    ensures undamaged { IsTrue D.tells → (base generation at : ℕ) → IsErrOf result (Ending.Damaged base generation at) → ⊥ }
+    ensures answers { IsTrue D.tells → (files : Files) (run : Run) → IsAt D.view files host.old run
+        → Answers D.view files (answer_by (admission run one.now) run one.now ∷ []) host.old host.new run (O.written out.old) (O.written out.new) result }
+    ensures keeps { KeepsRun D.tells D.view D.faults host.old host.new (O.faults out.old) (O.faults out.new) ⊥ result }
 {
     match make_offer(alloc, one, host) {
         Ok(answer) => put_answer(answer, text, out),
@@ -123,18 +97,9 @@ fn answer_line_of_offer<D: Disk, O: Sink>(
     requires runs { host.old.stopped ≡ false }
     requires built { AsksForBuilt one.now.ask }
     ensures runs { OnOk result (host.new.stopped ≡ false) }
-    ensures answered { IsTrue D.tells → (files : Files) (run : Run) → IsAt D.view files host.old run → (before : List ℕ) → O.written out.old ≡ Some before
-        → OnOk result (HasAnswered D.view files (offered files.size run one.now) host.old host.new run before (O.written out.new)) }
-    ensures ended { IsTrue D.tells → (files : Files) (run : Run) → IsAt D.view files host.old run → (before : List ℕ) → O.written out.old ≡ Some before
-        → IfErr result (HasEnded files (offered files.size run one.now) (D.view host.old.disk) (D.view host.new.disk) run before (O.written out.new)) }
-    ensures others { IsTrue D.tells → KeepsNames (D.view host.old.disk) (D.view host.new.disk) host.old.parts.name }
-    ensures name { host.new.parts.name ≡ host.old.parts.name }
-    ensures disk_later { D.faults host.old.disk ≤ D.faults host.new.disk }
-    ensures sink_later { O.faults out.old ≤ O.faults out.new }
-    ensures disk { IsErrOf result Ending.DiskFault → D.faults host.old.disk < D.faults host.new.disk }
-    ensures sink { IsErrOf result Ending.WriteFault → Rose (O.faults out.old) (O.faults out.new) }
-    ensures source { IsErrOf result Ending.ReadFault → ⊥ }
-    ensures undamaged { IsTrue D.tells → (base generation at : ℕ) → IsErrOf result (Ending.Damaged base generation at) → ⊥ }
+    ensures answers { IsTrue D.tells → (files : Files) (run : Run) → IsAt D.view files host.old run
+        → Answers D.view files (offered files.size run one.now) host.old host.new run (O.written out.old) (O.written out.new) result }
+    ensures keeps { KeepsRun D.tells D.view D.faults host.old host.new (O.faults out.old) (O.faults out.new) ⊥ result }
 {
     match expire_all(alloc, one.time, host, text, out) {
         Ok(None) => answer_offer(alloc, one, host, text, out),
@@ -155,18 +120,9 @@ fn answer_look<D: Disk, O: Sink>(
     requires runs { host.old.stopped ≡ false }
     requires looks { is_looking op.now ≡ true }
     ensures runs { OnOk result (host.new.stopped ≡ false) }
-    ensures answered { IsTrue D.tells → (files : Files) (run : Run) → IsAt D.view files host.old run → (before : List ℕ) → O.written out.old ≡ Some before
-        → OnOk result (HasAnswered D.view files (look_answer run name.now op.now ∷ []) host.old host.new run before (O.written out.new)) }
-    ensures ended { IsTrue D.tells → (files : Files) (run : Run) → IsAt D.view files host.old run → (before : List ℕ) → O.written out.old ≡ Some before
-        → IfErr result (HasEnded files (look_answer run name.now op.now ∷ []) (D.view host.old.disk) (D.view host.new.disk) run before (O.written out.new)) }
-    ensures others { IsTrue D.tells → KeepsNames (D.view host.old.disk) (D.view host.new.disk) host.old.parts.name }
-    ensures name { host.new.parts.name ≡ host.old.parts.name }
-    ensures disk_later { D.faults host.old.disk ≤ D.faults host.new.disk }
-    ensures sink_later { O.faults out.old ≤ O.faults out.new }
-    ensures disk { IsErrOf result Ending.DiskFault → D.faults host.old.disk < D.faults host.new.disk }
-    ensures sink { IsErrOf result Ending.WriteFault → Rose (O.faults out.old) (O.faults out.new) }
-    ensures source { IsErrOf result Ending.ReadFault → ⊥ }
-    ensures undamaged { IsTrue D.tells → (base generation at : ℕ) → IsErrOf result (Ending.Damaged base generation at) → ⊥ }
+    ensures answers { IsTrue D.tells → (files : Files) (run : Run) → IsAt D.view files host.old run
+        → Answers D.view files (look_answer run name.now op.now ∷ []) host.old host.new run (O.written out.old) (O.written out.new) result }
+    ensures keeps { KeepsRun D.tells D.view D.faults host.old host.new (O.faults out.old) (O.faults out.new) ⊥ result }
 {
     match look(alloc, name, op, host) {
         Ok(answer) => put_answer(answer, text, out),
@@ -183,18 +139,9 @@ fn answer_reopen<D: Disk, O: Sink>(
 ) -> Result<(), Ending>
     requires runs { host.old.stopped ≡ false }
     ensures runs { OnOk result (host.new.stopped ≡ false) }
-    ensures answered { IsTrue D.tells → (files : Files) (run : Run) → IsAt D.view files host.old run → (before : List ℕ) → O.written out.old ≡ Some before
-        → OnOk result (HasAnswered D.view files (reopening run ∷ []) host.old host.new run before (O.written out.new)) }
-    ensures ended { IsTrue D.tells → (files : Files) (run : Run) → IsAt D.view files host.old run → (before : List ℕ) → O.written out.old ≡ Some before
-        → IfErr result (HasEnded files (reopening run ∷ []) (D.view host.old.disk) (D.view host.new.disk) run before (O.written out.new)) }
-    ensures others { IsTrue D.tells → KeepsNames (D.view host.old.disk) (D.view host.new.disk) host.old.parts.name }
-    ensures name { host.new.parts.name ≡ host.old.parts.name }
-    ensures disk_later { D.faults host.old.disk ≤ D.faults host.new.disk }
-    ensures sink_later { O.faults out.old ≤ O.faults out.new }
-    ensures disk { IsErrOf result Ending.DiskFault → D.faults host.old.disk < D.faults host.new.disk }
-    ensures sink { IsErrOf result Ending.WriteFault → Rose (O.faults out.old) (O.faults out.new) }
-    ensures source { IsErrOf result Ending.ReadFault → ⊥ }
-    ensures undamaged { IsTrue D.tells → (base generation at : ℕ) → IsErrOf result (Ending.Damaged base generation at) → ⊥ }
+    ensures answers { IsTrue D.tells → (files : Files) (run : Run) → IsAt D.view files host.old run
+        → Answers D.view files (reopening run ∷ []) host.old host.new run (O.written out.old) (O.written out.new) result }
+    ensures keeps { KeepsRun D.tells D.view D.faults host.old host.new (O.faults out.old) (O.faults out.new) ⊥ result }
 {
     match reopen(alloc, host) {
         Ok(answer) => put_answer(answer, text, out),
@@ -213,18 +160,9 @@ fn answer_command<D: Disk, O: Sink>(
     requires runs { host.old.stopped ≡ false }
     requires fit { IsFit asked.now }
     ensures runs { OnOk result (host.new.stopped ≡ false) }
-    ensures answered { IsTrue D.tells → (files : Files) (run : Run) → IsAt D.view files host.old run → (before : List ℕ) → O.written out.old ≡ Some before
-        → OnOk result (HasAnswered D.view files (answers_to files.size run asked.now) host.old host.new run before (O.written out.new)) }
-    ensures ended { IsTrue D.tells → (files : Files) (run : Run) → IsAt D.view files host.old run → (before : List ℕ) → O.written out.old ≡ Some before
-        → IfErr result (HasEnded files (answers_to files.size run asked.now) (D.view host.old.disk) (D.view host.new.disk) run before (O.written out.new)) }
-    ensures others { IsTrue D.tells → KeepsNames (D.view host.old.disk) (D.view host.new.disk) host.old.parts.name }
-    ensures name { host.new.parts.name ≡ host.old.parts.name }
-    ensures disk_later { D.faults host.old.disk ≤ D.faults host.new.disk }
-    ensures sink_later { O.faults out.old ≤ O.faults out.new }
-    ensures disk { IsErrOf result Ending.DiskFault → D.faults host.old.disk < D.faults host.new.disk }
-    ensures sink { IsErrOf result Ending.WriteFault → Rose (O.faults out.old) (O.faults out.new) }
-    ensures source { IsErrOf result Ending.ReadFault → ⊥ }
-    ensures undamaged { IsTrue D.tells → (base generation at : ℕ) → IsErrOf result (Ending.Damaged base generation at) → ⊥ }
+    ensures answers { IsTrue D.tells → (files : Files) (run : Run) → IsAt D.view files host.old run
+        → Answers D.view files (answers_to files.size run asked.now) host.old host.new run (O.written out.old) (O.written out.new) result }
+    ensures keeps { KeepsRun D.tells D.view D.faults host.old host.new (O.faults out.old) (O.faults out.new) ⊥ result }
 {
     match asked {
         Command::Skip => Ok(()),
@@ -246,18 +184,9 @@ pub fn turn<D: Disk, O: Sink>(
 ) -> Result<(), Ending>
     requires runs { host.old.stopped ≡ false }
     ensures runs { OnOk result (host.new.stopped ≡ false) }
-    ensures answered { IsTrue D.tells → (files : Files) (run : Run) → IsAt D.view files host.old run → (before : List ℕ) → O.written out.old ≡ Some before
-        → OnOk result (IsTurned D.view files line.now host.old host.new run before (O.written out.new)) }
-    ensures ended { IsTrue D.tells → (files : Files) (run : Run) → IsAt D.view files host.old run → (before : List ℕ) → O.written out.old ≡ Some before
-        → IfErr result (IsTurnCut files line.now number (D.view host.old.disk) (D.view host.new.disk) run before (O.written out.new)) }
-    ensures others { IsTrue D.tells → KeepsNames (D.view host.old.disk) (D.view host.new.disk) host.old.parts.name }
-    ensures name { host.new.parts.name ≡ host.old.parts.name }
-    ensures disk_later { D.faults host.old.disk ≤ D.faults host.new.disk }
-    ensures sink_later { O.faults out.old ≤ O.faults out.new }
-    ensures disk { IsErrOf result Ending.DiskFault → D.faults host.old.disk < D.faults host.new.disk }
-    ensures sink { IsErrOf result Ending.WriteFault → Rose (O.faults out.old) (O.faults out.new) }
-    ensures source { IsErrOf result Ending.ReadFault → ⊥ }
-    ensures undamaged { IsTrue D.tells → (base generation at : ℕ) → IsErrOf result (Ending.Damaged base generation at) → ⊥ }
+    ensures turns { IsTrue D.tells → (files : Files) (run : Run) → IsAt D.view files host.old run
+        → Turns D.view files line.now number host.old host.new run (O.written out.old) (O.written out.new) result }
+    ensures keeps { KeepsRun D.tells D.view D.faults host.old host.new (O.faults out.old) (O.faults out.new) ⊥ result }
 {
     match read_command(alloc, line) {
         Ok(Some(asked)) => answer_command(alloc, &asked, host, text, out),

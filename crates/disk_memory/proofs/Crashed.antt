@@ -9,7 +9,7 @@ use Rattle.disk_memory.specs.declared.steps.Kind.TheVariants.{Settled}
 use Rattle.disk_memory.specs.declared.steps.Step.{Step}
 use Rattle.disk_memory.specs.Versions.{version_place, version_bytes, newest, image_of}
 use Rattle.disk_memory.specs.History.{history, from_newest}
-use Rattle.disk_memory.specs.Placed.{EachSettled}
+use Rattle.disk_model.specs.View.{EachSettled}
 use Rattle.disk_memory.specs.Torn.{sound}
 use Rattle.disk_memory.proofs.Pushed.{there, others}
 use Rattle.disk_memory.proofs.Torn.{one_newer, settled_more}

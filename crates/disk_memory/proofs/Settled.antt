@@ -4,10 +4,11 @@ use Rattle.std.proofs.lemmas.List.{take_all, take_at, drop_at, take-append-le}
 use Rattle.std.proofs.lemmas.Bool.{cases_order}
 use Rattle.disk_model.specs.Image.{Place, Torn, written}
 use Rattle.disk_model.specs.View.{Elapses}
+use Rattle.disk_model.proofs.Places.{elapses_not}
 use Rattle.disk_model.specs.Calls.{Writes, Creates, Removes}
 use Rattle.disk_memory.specs.declared.steps.Step.{Step}
 use Rattle.disk_memory.specs.Versions.{version_place, version_bytes, image_of}
-use Rattle.disk_memory.specs.Sure.{sure_view, held, is_held}
+use Rattle.disk_memory.specs.Sure.{sure_view, sure_sound, held, is_held}
 use Rattle.disk_memory.specs.Placed.{Places}
 use Rattle.disk_memory.proofs.Pushed.{there, elsewhere, others}
 
@@ -43,6 +44,7 @@ module _ (vs ws : List Step) (v : Step) (p : Place) (one_more : ws ≡ vs ++ v �
       ]
     ];
     keeps = λ t c le left. (left.0, left.1, omega (arith, left.2, grows), λ q. left.3 q ∙ ap (λ (l : List Step). image_of l q) (sym (front_of left.0 left.2)));
+    counts = λ t c le may. (sure_sound ws).counts_now t c (omega (arith, le, grows)) may;
   }
 
   pub writes : (b bytes : List ℕ) (from : ℕ) → image_of vs p ≡ Some b → from ≤ length b → version_bytes v ≡ Some (written b from bytes) → {T : Type 0} (x : T) → Writes (sure_view vs) (sure_view ws) p from bytes (Ok x)
@@ -91,3 +93,7 @@ module _ (vs ws : List Step) (v : Step) (p : Place) (one_more : ws ≡ vs ++ v �
     all_settled = λ settled. is_held ws;
     time = elapses;
   }
+
+-- a call that did nothing
+pub sure_stands : (vs : List Step) → Elapses (sure_view vs) (sure_view vs)
+sure_stands vs = elapses_not (sure_view vs) (sure_sound vs)

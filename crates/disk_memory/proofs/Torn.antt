@@ -7,16 +7,17 @@ use Rattle.disk_model.specs.Image.{IsFileId, Place, place, same_place, Torn, wri
 use Rattle.disk_model.specs.declared.file_id.FileId.{FileId}
 use Rattle.std.specs.declared.alloc.Global.{Global}
 use Rattle.std.proofs.Common.{Vec}
-use Rattle.disk_model.specs.View.{View, MayHold, Reads, Elapses, IsSound, IsSettled}
+use Rattle.disk_model.specs.View.{View, EachSettled, MayHold, Reads, Elapses, IsSound, IsSettled}
 use Rattle.disk_model.specs.Calls.{Writes, Creates, Removes, Syncs}
 use Rattle.disk_model.proofs.Names.{same_when, same_to, place_cases}
 use Rattle.disk_memory.specs.declared.steps.Kind.{Kind}
 use Rattle.disk_memory.specs.declared.steps.Kind.TheVariants.{Settled, Created, Written, Removed, Synced}
 use Rattle.disk_memory.specs.declared.steps.Step.{Step}
 use Rattle.disk_memory.specs.Kinds.{fits}
-use Rattle.disk_memory.specs.Placed.{EachSettled, Places}
+use Rattle.disk_memory.specs.Placed.{Places}
 use Rattle.disk_memory.specs.Versions.{bytes_of, version_place, version_bytes, image_of}
-use Rattle.disk_memory.specs.History.{Leaves, LeavesElse, next, read_after, from_newest, history}
+use Rattle.disk_memory.specs.History.{Leaves, LeavesElse, next, read_after, from_newest, history, history_sound, hold_same}
+use Rattle.disk_model.proofs.Places.{elapses_not}
 use Rattle.disk_memory.proofs.Settled.{torn_whole}
 
 through : (b : Bool) (s : Step) (o : Option Step) → option_and_then version_bytes (cond b (Some s) o) ≡ cond b (version_bytes s) (option_and_then version_bytes o)
@@ -56,6 +57,7 @@ module _ (v : View) (s : Step) (p : Place) (at : version_place s ≡ p) (sound :
     later = omega arith;
     nothing_else = λ t c le left. ⊎_elim (λ now. inr now) (λ was. inl was.1) left;
     keeps = λ t c le left. inr (le, left);
+    counts = λ t c le may. inl (λ q. hold_same v s q (c q) (may q));
   }
 
   absent_now : (q : Place) (o : Option (List ℕ)) → o ≡ None → v.reading q ≡ None → v.else_left q o
@@ -192,3 +194,7 @@ module _ (v : View) (name : List ℕ) (id : FileId) (named : IsFileId id) (sound
 -- from a step to the lists of steps
 pub moved : (steps more : List Step) (s : Step) (R : View → View → Type 0) → more ≡ steps ++ s ∷ [] → R (history steps) (next (history steps) s) → R (history steps) (history more)
 moved steps more s R push fact = subst (λ (l : List Step). R (history steps) (from_newest l)) (sym (one_newer steps more s push)) fact
+
+-- a call that did nothing
+pub history_stands : (steps : List Step) → Elapses (history steps) (history steps)
+history_stands steps = elapses_not (history steps) (history_sound (reverse steps))

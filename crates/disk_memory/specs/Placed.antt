@@ -1,11 +1,7 @@
 -- A file that is set from outside, settled.
 use Rattle.std.specs.Prelude.{◌≡◌, ◌≢◌, ℕ, List, Option}
 use Rattle.disk_model.specs.Image.{Place}
-use Rattle.disk_model.specs.View.{View, Reads, IsSettled, Elapses}
-
--- whatever a crash leaves, it is what is read
-abbrev pub EachSettled : View → Type 0
-EachSettled v = (p : Place) → IsSettled v p
+use Rattle.disk_model.specs.View.{View, Reads, EachSettled, IsSettled, Elapses}
 
 pub record Places (old new : View) (p : Place) (bytes : List ℕ) : Type 0 where
   pub here : Reads new p bytes

@@ -4,7 +4,7 @@ ghost use Rattle.std.specs.Option.{option_copied};
 ghost use Rattle.disk_model.specs.Image.{Place, place};
 ghost use Rattle.disk_memory.specs.History.{history};
 ghost use Rattle.disk_memory.specs.Outcomes.{kept_after, kept_from, left, torn_here, torn_from};
-ghost use Rattle.disk_memory.specs.Placed.{EachSettled};
+ghost use Rattle.disk_model.specs.View.{EachSettled};
 ghost use Rattle.disk_memory.specs.Versions.{bytes_of, image_of, version_bytes};
 
 use crate::bytes::overwritten;

@@ -1,11 +1,13 @@
 // A disk in memory that tears, and that fails at the calls that it is told to fail at.
+#![tactic(auto, using(crate::proofs::Torn::history_stands))]
+
 ghost use Rattle.std.specs.Prelude.{◌≡◌, ◌≤◌, ◌++◌, ◌∷◌, [], ℕ, List, length, All, IfOk, OnOk, OnErr, true, None};
 ghost use Rattle.disk_model.specs.Calls.{Looks, Lists, ReadsInto, Writes, Creates, Removes, Syncs};
 ghost use Rattle.disk_model.specs.Image.{IsFileId, Place, place};
-ghost use Rattle.disk_model.specs.View.{HasCause, IsListed, MayLeave, Reaches, Reads};
+ghost use Rattle.disk_model.specs.View.{EachSettled, HasCause, IsListed, MayLeave, Reaches, Reads};
 ghost use Rattle.disk_memory.specs.History.{history};
 ghost use Rattle.disk_memory.specs.Outcomes.{left};
-ghost use Rattle.disk_memory.specs.Placed.{EachSettled, Places};
+ghost use Rattle.disk_memory.specs.Placed.{Places};
 ghost use Rattle.disk_memory.specs.Plan.{calls_limit, with_fail, with_last, without_fails};
 ghost use Rattle.disk_memory.specs.Plans.{Counts, past, plan_of};
 ghost use Rattle.disk_memory.specs.Torn.{sound};

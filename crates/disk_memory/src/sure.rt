@@ -1,7 +1,10 @@
 // A disk in memory that settles each call at once and never fails. It keeps each version of a file.
+#![tactic(auto, using(crate::proofs::Settled::sure_stands))]
+
 ghost use Rattle.std.specs.Prelude.{◌≡◌, ◌≤◌, ℕ, OnOk, OnErr, length, true, None};
 ghost use Rattle.disk_model.specs.Image.{IsFileId, Place, place};
-ghost use Rattle.disk_memory.specs.Placed.{EachSettled, Places};
+ghost use Rattle.disk_model.specs.View.{EachSettled};
+ghost use Rattle.disk_memory.specs.Placed.{Places};
 ghost use Rattle.disk_memory.specs.Plans.{sure_past};
 ghost use Rattle.disk_memory.specs.Sure.{sure_view, sure_sound};
 

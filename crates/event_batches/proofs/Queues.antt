@@ -1,12 +1,13 @@
 -- What a rising list of batches shows.
-use Rattle.std.proofs.Common.{◌≡◌, ℕ, suc, ◌-◌, ◌<◌, ◌==◌, ◌||◌, Bool, true, false, cond, nat_lt, nat_le, List, [], ◌∷◌, ◌++◌, map, Option, Some, None, refl, sym, ap, subst, ◌∙◌, inl, inr, drop, length, Bor, arith, ltb-true, eqb-true}
+use Rattle.std.proofs.Common.{append-nil, ◌≡◌, ℕ, suc, ◌-◌, ◌<◌, ◌≤◌, ◌==◌, ◌||◌, Bool, true, false, cond, nat_lt, nat_le, List, [], ◌∷◌, ◌++◌, map, Option, Some, None, refl, sym, ap, subst, ◌∙◌, inl, inr, drop, length, Bor, arith, lt-ltb, ltb-true, eqb-true}
 use Rattle.std.proofs.lemmas.Bool.{cases_lt, false_from_ne_true}
 use Rattle.std.specs.List.{filter, find, slice_get}
 use Rattle.std.specs.Option.{option_map, option_map_or, option_copied}
 use Rattle.host_types.specs.declared.entry.Event.{Event}
 use Rattle.log_model.specs.plain.Plain.{Kept_batch}
+use Rattle.log_model.specs.plain.Step.{one_batch}
 use Rattle.log_model.specs.serving.Batches as model
-use Rattle.event_batches.specs.Kept.{as_batch, as_kept, indexes, pushed, served, has_batch, can_confirm}
+use Rattle.event_batches.specs.Kept.{as_batch, as_kept, above, indexes, pushed, served, trimmed, has_batch, can_confirm}
 use Rattle.event_batches.specs.Rising.{Rises, AreBelow, last_of}
 use Rattle.log_model.specs.serving.Serving.{chained}
 use Rattle.event_batches.specs.Dropping.{lent_has, linked_to}
@@ -115,8 +116,17 @@ next_above event confirmed items (Some b) found t =
     omega (arith, up, e)
 
 pub below_pushed : (top acked index : ℕ) (events : List Event) (bs : List Kept_batch) → index < top → AreBelow top (indexes bs) → AreBelow top (indexes (pushed acked index events bs))
-below_pushed top acked index events bs l b = go (nat_lt acked index)
+below_pushed top acked index events bs l b = go (nat_le index acked) events
   where
-    go : (q : Bool) → AreBelow top (indexes (cond q (bs ++ record { index = index; events = events } ∷ []) bs))
-    go true = subst (AreBelow top) (sym (map_push (λ (k : Kept_batch). k.index) bs (record { index = index; events = events }))) (below_append top (indexes bs) (index ∷ []) b (l, tt))
-    go false = b
+    go : (q : Bool) (es : List Event) → AreBelow top (indexes (cond q bs (bs ++ one_batch index es)))
+    go true es = b
+    go false [] = subst (λ (ks : List Kept_batch). AreBelow top (indexes ks)) (sym (append-nil bs)) b
+    go false (e ∷ es) = subst (AreBelow top) (sym (map_push (λ (k : Kept_batch). k.index) bs (record { index = index; events = e ∷ es }))) (below_append top (indexes bs) (index ∷ []) b (l, tt))
+
+-- ---- what is acknowledged
+
+pub trimmed_none : (acked event : ℕ) (bs : List Kept_batch) → event < acked → bs ≡ trimmed acked event bs
+trimmed_none acked event bs l = sym (ap (λ q. cond q bs (above event bs)) (lt-ltb event acked l))
+
+pub trimmed_some : (acked event : ℕ) (bs : List Kept_batch) → acked ≤ event → above event bs ≡ trimmed acked event bs
+trimmed_some acked event bs l = sym (ap (λ q. cond q bs (above event bs)) (false_from_ne_true (nat_lt event acked) (λ t. let up = ltb-true event acked t in omega (arith, up, l))))

@@ -1,9 +1,10 @@
 -- What callers see of a session's batches.
-use Rattle.std.specs.Prelude.{ℕ, Bool, false, cond, nat_lt, ◌==◌, ◌||◌, List, [], ◌∷◌, ◌++◌, map, Option}
+use Rattle.std.specs.Prelude.{ℕ, Bool, false, cond, nat_le, nat_lt, ◌==◌, ◌||◌, List, ◌++◌, map, Option}
 use Rattle.std.specs.List.{filter, find, list_any}
 use Rattle.std.specs.Option.{option_map_or}
 use Rattle.host_types.specs.declared.entry.Event.{Event}
 use Rattle.log_model.specs.plain.Plain.{Kept_batch}
+use Rattle.log_model.specs.plain.Step.{one_batch}
 use Rattle.log_model.specs.serving.Batches as model
 use Rattle.log_model.specs.serving.Serving.{chained}
 use Rattle.event_batches.specs.declared.batch.Batch.{Batch}
@@ -26,13 +27,17 @@ as_kept b = record { index = b.index; events = b.events }
 abbrev pub indexes : List Kept_batch → List ℕ
 indexes bs = map (λ b. b.index) bs
 
--- one batch more, unless it was acknowledged
+-- one batch more, unless it was acknowledged or has no events
 abbrev pub pushed : ℕ → ℕ → List Event → List Kept_batch → List Kept_batch
-pushed acked index events bs = cond (nat_lt acked index) (bs ++ record { index = index; events = events } ∷ []) bs
+pushed acked index events bs = cond (nat_le index acked) bs (bs ++ one_batch index events)
 
 -- the batches above an event
 abbrev pub above : ℕ → List Kept_batch → List Kept_batch
 above event bs = filter (λ b. nat_lt event b.index) bs
+
+-- what is left when all up to an event are acknowledged, which is none below the acknowledged event
+abbrev pub trimmed : ℕ → ℕ → List Kept_batch → List Kept_batch
+trimmed acked event bs = cond (nat_lt event acked) bs (above event bs)
 
 abbrev pub has_batch : ℕ → List Kept_batch → Bool
 has_batch event bs = list_any (λ b. b.index == event) bs

@@ -4,7 +4,7 @@ ghost use Rattle.std.specs.Option.{option_map, option_copied};
 ghost use Rattle.std.specs.List.{find, filter};
 ghost use Rattle.std.specs.Prelude.{nat_lt, nat_le};
 ghost use Rattle.log_model.specs.plain.Quiet.{greatest_below};
-ghost use Rattle.event_batches.specs.Kept.{as_batch, indexes, pushed, above, served, has_batch, can_confirm};
+ghost use Rattle.event_batches.specs.Kept.{as_batch, indexes, pushed, trimmed, served, has_batch, can_confirm};
 ghost use Rattle.event_batches.specs.Rising.{AreBelow, Rises, last_of};
 ghost use Rattle.event_batches.specs.Dropping.{lent_has, linked_to};
 ghost use Rattle.std.specs.VecDeque.{deque_len, deque_capacity};
@@ -85,8 +85,8 @@ impl Queue {
         Ok(())
     }
 
-    /// Keeps one more batch, whose index is above every kept one. There is room for it. A batch that isn't above the acknowledged
-    /// event, which no log brings about, isn't kept.
+    /// Keeps one more batch, whose index is above every kept one. There is room for it. A batch without events isn't kept, and neither
+    /// is one that isn't above the acknowledged event, which no log brings about.
     pub fn push(&mut self, index: Index, events: Events)
         requires prepared { 1 ≤ self.old.room }
         requires above { AreBelow index (indexes self.old.batches) }
@@ -96,6 +96,9 @@ impl Queue {
         ensures room { self.old.room ≤ self.new.room + 1 }
     {
         if index <= self.acked {
+            return;
+        }
+        if events.len() == 0 {
             return;
         }
         let previous = last_index(&self.kept, self.acked);
@@ -136,7 +139,7 @@ impl Queue {
     /// Acknowledges all up to this event: drops the batches up to it, and raises both events to it. An event below the
     /// acknowledged one, which no log brings about, changes nothing.
     pub fn trim(&mut self, event: Index)
-        ensures batches { self.new.batches ≡ above event self.old.batches }
+        ensures batches { self.new.batches ≡ trimmed self.old.acked event self.old.batches }
         ensures acked { self.new.acked ≡ max self.old.acked event }
         ensures confirmed { self.new.confirmed ≡ max self.old.confirmed event }
         ensures room { self.old.room ≤ self.new.room }

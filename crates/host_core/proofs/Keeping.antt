@@ -1,7 +1,7 @@
 -- What a core keeps, it keeps after each entry.
-use Rattle.std.proofs.Common.{Bool, Option, Some, None, Ok, Err, Result, ltb-true, ◌≡◌, ℕ, ◌+◌, ◌<◌, ◌≤◌, true, false, cond, not, ◌&&◌, ◌==◌, nat_lt, List, [], ◌∷◌, ◌++◌, refl, sym, ap, subst, ◌∙◌, arith}
+use Rattle.std.proofs.Common.{Bool, Option, Some, None, Ok, Err, Result, ltb-true, ◌≡◌, ℕ, ◌+◌, ◌<◌, ◌≤◌, cond, List, [], ◌∷◌, ◌++◌, true, false, nat_lt, refl, sym, ap, subst, ◌∙◌, arith}
 use Rattle.std.specs.Prelude.{IfOk, IfSome}
-use Rattle.std.specs.List.{filter, find, AllByRecursion}
+use Rattle.std.specs.List.{find, AllByRecursion}
 use Rattle.host_types.specs.declared.entry.Body.{Body}
 use Rattle.host_types.specs.declared.entry.Body.TheVariants.{Register, Alive, Close, Tick, Command}
 use Rattle.host_types.specs.declared.entry.Entry.{Entry}
@@ -11,6 +11,7 @@ use Rattle.host_types.specs.Ranges.{EntryFits, IsInRange, IsIndex, OfferFits}
 use Rattle.host_types.specs.declared.entry.Ask.{Ask}
 use Rattle.machine.specs.Release.{AreOut}
 use Rattle.host_core.specs.Answers.{Decides_as, IsStorable, Judges, asked_admission, asked_body}
+use Rattle.host_core.specs.Batching.{told_by}
 use Rattle.std.proofs.lemmas.Bool.{false_from_ne_true}
 use Rattle.host_types.specs.declared.entry.Offer.{Offer}
 use Rattle.host_types.specs.declared.entry.Refusal.TheVariants.{Time}
@@ -21,11 +22,10 @@ use Rattle.log_model.specs.plain.Admission.{Offered, Admission, admits_asked, ad
 use Rattle.log_model.specs.plain.Stored.{body_of}
 use Rattle.commit_lending.specs.Lent.{Lent, tokens, one_of}
 use Rattle.log_model.specs.cleaning.Cells.{after}
-use Rattle.log_model.specs.plain.Plain.{Kept_batch, Session}
-use Rattle.log_model.specs.plain.Step.{changed, new_session, with_reply}
+use Rattle.log_model.specs.plain.Plain.{Session}
 use Rattle.log_model.specs.hosted.Hosted.{hosted_admits, hosted_command, hosted_entry, hosted_declined, hosted_told, machine_cells}
 use Rattle.log_model.specs.hosted.Parts.{machine_after, session_cells}
-use Rattle.log_model.specs.replay.Replay.{noted, replay_alive, replay_batches, replay_reply, replay_sessions, replay_entry}
+use Rattle.log_model.specs.replay.Replay.{replay_sessions, replay_entry}
 use Rattle.log_model.specs.hosted.Sound.{IsSessionSound, IsSound}
 use Rattle.log_model.proofs.hosted.Free.{index_free}
 use Rattle.log_model.proofs.hosted.OfMachines.{admitted_in_range}
@@ -33,55 +33,22 @@ use Rattle.log_model.specs.plain.Stored.{is_admission}
 use Rattle.host_core.specs.declared.deciding.Decided.TheVariants as decided
 use Rattle.log_model.proofs.hosted.Parts.{part_follows}
 use Rattle.log_model.proofs.Lookups.{T_from}
-use Rattle.log_model.proofs.hosted.Sounds.{entry_sound, each_append, each_filter, each_map}
+use Rattle.log_model.proofs.hosted.Sounds.{entry_sound}
 use Rattle.session_table.specs.Table.{Table}
 use Rattle.session_table.specs.Places.{table_cells}
 use Rattle.host_core.specs.Entering.{Entered, Meets}
 use Rattle.host_core.specs.Parts.{sessions_after}
-use Rattle.host_core.specs.Seen.{Seen, IsKept, TellsNothing, hosted}
-use Rattle.host_core.proofs.Meeting.{untold}
+use Rattle.host_core.specs.Seen.{Seen, IsKept, hosted}
 use Rattle.host_core.proofs.Parts.{parts_follow, session_part}
-use Rattle.host_core.proofs.Standing.{places-append, one_token}
+use Rattle.host_core.proofs.Standing.{places-append, one_token, out_after}
 
--- nobody is told anything
-nothing_told : (d : MachineDecision) → TellsNothing d → (c : Cells) (i : ℕ) (b : Body) → hosted_told d c i b ≡ []
-nothing_told d t c i (Register timeout) = refl
-nothing_told d t c i (Alive session seq event) = refl
-nothing_told d t c i (Close session expired) = t.tells_close (machine_cells c) session
-nothing_told d t c i Tick = refl
-nothing_told d t c i (Command session seq effect reply) = t.tells (machine_cells c) effect i
-
--- so nobody keeps a batch
-IsSilent : Session → Type 0
-IsSilent x = x.batches ≡ []
-
-AreSilent : List Session → Type 0
-AreSilent ss = AllByRecursion (λ (x : Session). x.batches ≡ []) ss
-
-silent_change : (id : ℕ) (f : Session → Session) → ((x : Session) → x.batches ≡ [] → (f x).batches ≡ []) → (ss : List Session) → AllByRecursion (λ (x : Session). x.batches ≡ []) ss → AllByRecursion (λ (x : Session). x.batches ≡ []) (changed id f ss)
-silent_change id f keeps ss a = each_map (λ (x : Session). x.batches ≡ []) (λ (x : Session). x.batches ≡ []) (λ x. cond (x.id == id) (f x) x) (λ x e. elim (x.id == id) as (λ b. (cond b (f x) x).batches ≡ []) [ true ↦ keeps x e | false ↦ e ]) ss a
-
-heard_silent : (time seq event : ℕ) (x : Session) → x.batches ≡ [] → (replay_alive time seq event x).batches ≡ []
-heard_silent time seq event x e = elim (nat_lt event x.acked_event) as (λ b. (noted seq (cond b y (record y { acked_event = event; batches = kept x.batches }))).batches ≡ []) [
-  | true ↦ e
-  | false ↦ ap kept e
-]
-  where
-    y : Session
-    y = record x { last_time = time; acked_seq = seq; replies = filter (λ r. nat_lt seq r.seq) x.replies }
-
-    kept : List Kept_batch → List Kept_batch
-    kept bs = filter (λ b. nat_lt event b.index) bs
-
-silent_after : (cut i time : ℕ) (b : Body) (ss : List Session) → AllByRecursion (λ (x : Session). x.batches ≡ []) ss → AllByRecursion (λ (x : Session). x.batches ≡ []) (replay_sessions cut i time [] b ss)
-silent_after cut i time (Register timeout) ss a = each_append (λ (x : Session). x.batches ≡ []) ss (new_session i time timeout ∷ []) a (refl, tt)
-silent_after cut i time (Alive session seq event) ss a = silent_change session (replay_alive time seq event) (heard_silent time seq event) ss a
-silent_after cut i time (Close session expired) ss a =
-    subst (AllByRecursion (λ (x : Session). x.batches ≡ [])) (sym (untold cut i (filter (λ (x : Session). not (x.id == session)) ss))) (each_filter (λ (x : Session). x.batches ≡ []) (λ (x : Session). not (x.id == session)) ss a)
-silent_after cut i time Tick ss a = a
-silent_after cut i time (Command session seq effect reply) ss a =
-    silent_change session (replay_reply cut seq i reply) (λ x e. elim (nat_lt cut i && nat_lt x.seq seq) as (λ b. (cond b (with_reply seq i reply x) (noted seq x)).batches ≡ []) [ true ↦ e | false ↦ e ]) (replay_batches cut i [] ss)
-    (subst (AllByRecursion (λ (x : Session). x.batches ≡ [])) (sym (untold cut i ss)) a)
+-- what a machine tells is what a host tells, whose cells are the machine's and those of its sessions
+told_is : (d : MachineDecision) (c machine : Cells) (i : ℕ) (b : Body) → machine_cells c ≡ machine → hosted_told d c i b ≡ told_by d machine i b
+told_is d c machine i (Close session expired) same = ap (λ m. d.tells_close m session) same
+told_is d c machine i (Command session seq effect reply) same = ap (λ m. d.tells m effect i) same
+told_is d c machine i (Register timeout) same = refl
+told_is d c machine i (Alive session seq event) same = refl
+told_is d c machine i Tick same = refl
 
 found_has : (f : Session → Bool) (last : ℕ) (ss : List Session) → AllByRecursion (IsSessionSound last) ss → (x : Session) → find f ss ≡ Some x → IsSessionSound last x
 found_has f last [] a x e = absurd (cc)
@@ -91,7 +58,7 @@ found_has f last (y ∷ ss) a x e =
       | false ↦ λ e. found_has f last ss a.1 x e
     ] e
 
-module _ {M : Type 0} (cells : M → Cells) (d : MachineDecision) (s : Seen M) (k : IsKept cells d s) where
+module _ {M : Type 0} (cells : M → Cells) (d : MachineDecision) (s : Seen M) (k : IsKept cells s) where
   -- nothing of the next index is out
   pub absent : (index : ℕ) → s.last < index → tokens s.lender index ≡ 0
   absent index behind = k.out index ∙ (index_free (hosted cells s) index k.sound behind).unheld
@@ -106,7 +73,6 @@ module _ {M : Type 0} (cells : M → Cells) (d : MachineDecision) (s : Seen M) (
     table_is = k.sessions;
     behind = behind;
     out = λ j. (let now = more j in let before = k.out j in let sum = places-append (cells s.machine) (table_cells s.sessions) j in omega (arith, now, before, sum));
-    silent = k.silent;
   }
 
   -- each part is out by itself
@@ -165,18 +131,18 @@ module _ {M : Type 0} (cells : M → Cells) (d : MachineDecision) (s : Seen M) (
   storable_all lawful o fit (Ok r) decides = storable lawful o fit r decides
   storable_all lawful o fit (Err why) decides = tt
 
-  module _ (index cut : ℕ) (e : Entry) (behind : s.last < index) (fits : EntryFits e) (range : IsInRange index e) (machine : M) (table : Table) (lent lent' : Lent)
-      (entered : Entered index e cut (cells s.machine) (cells machine) s.sessions table lent) (out : lent'.out ≡ lent.out) (closed : lent'.closed ≡ []) where
+  module _ (index cut : ℕ) (e : Entry) (behind : s.last < index) (fits : EntryFits e) (range : IsInRange index e) (machine : M) (table : Table) (lent lent' lent'' : Lent)
+      (lends : (j : ℕ) → tokens lent j ≡ tokens s.lender j + one_of index j) (entered : Entered index e cut (told_by d (cells s.machine) index e.body) (cells s.machine) (cells machine) s.sessions table lent lent') (out : lent''.out ≡ lent'.out) (closed : lent''.closed ≡ []) where
     abbrev s' : Seen M
-    s' = record { machine = machine; sessions = table; lender = lent'; last = index; time = e.time }
+    s' = record { machine = machine; sessions = table; lender = lent''; last = index; time = e.time }
 
     cells_are : after (hosted cells s).cells index e ≡ cells machine ++ table_cells table
     cells_are =
         parts_follow (cells s.machine) (table_cells s.sessions) index e k.sound.cells_rise k.machine k.sessions
         ∙ (λ j. sym entered.machine_is j ++ sym entered.table_is j)
 
-    told : hosted_told d (hosted cells s).cells index e.body ≡ []
-    told = nothing_told d k.tells (hosted cells s).cells index e.body
+    told : hosted_told d (hosted cells s).cells index e.body ≡ told_by d (cells s.machine) index e.body
+    told = told_is d (hosted cells s).cells (cells s.machine) index e.body k.machine
 
     pub state_is : hosted cells s' ≡ replay_entry (hosted_told d) cut (hosted cells s) (index, e)
     state_is = λ j. record {
@@ -186,13 +152,14 @@ module _ {M : Type 0} (cells : M → Cells) (d : MachineDecision) (s : Seen M) (
       cells = sym cells_are j;
     }
 
-    pub is_kept : IsKept cells d s'
+    pub is_kept : IsKept cells s'
     is_kept = record {
       sound = subst IsSound (sym state_is) (entry_sound (hosted_told d) cut (hosted cells s) index e k.sound behind fits range);
       machine = ap machine_cells (sym cells_are) ∙ part_follows (hosted cells s).cells index e k.sound.cells_rise ∙ ap (machine_after (hosted cells s).cells index e.body) k.machine ∙ sym entered.machine_is;
       sessions = ap session_cells (sym cells_are) ∙ session_part (hosted cells s).cells index (T_from _ k.sound.cells_rise) e.time e.body ∙ ap (sessions_after index e) k.sessions ∙ sym entered.table_is;
-      out = λ j. ap (λ o. cond (Rattle.std.specs.FinSet.contains o j) 1 0) out ∙ entered.out j ∙ sym (places-append (cells machine) (table_cells table) j);
+      out = λ j.
+          ap (λ o. cond (Rattle.std.specs.FinSet.contains o j) 1 0) out
+          ∙ out_after index (cells s.machine) s.sessions lent (meets index lent behind lends).out (cells machine) table lent' entered.released j
+          ∙ sym (places-append (cells machine) (table_cells table) j);
       closed = closed;
-      tells = k.tells;
-      silent = subst (AllByRecursion (λ (x : Session). x.batches ≡ [])) (sym entered.sessions_are) (silent_after cut index e.time e.body s.sessions.sessions k.silent);
     }

@@ -1,34 +1,40 @@
 -- What follows where a commit stands before a host's machine and sessions.
-use Rattle.std.proofs.Common.{lt-ltb, ltb-true, nat_le, nat_lt, max, ◌≡◌, ℕ, ◌+◌, ◌<◌, ◌≤◌, Bool, true, false, cond, not, ◌&&◌, ◌==◌, List, [], ◌∷◌, ◌++◌, map, Option, Some, None, is_some, refl, sym, ap, subst, ◌∙◌, arith}
-use Rattle.std.proofs.lemmas.Bool.{false_from_ne_true, ltb-false}
+use Rattle.std.proofs.Common.{lt-ltb, ltb-true, nat_le, nat_lt, ◌≡◌, ◌≢◌, ℕ, ◌+◌, ◌<◌, ◌≤◌, Bool, true, false, cond, not, ◌&&◌, ◌==◌, List, [], ◌∷◌, ◌++◌, map, Option, Some, None, is_some, refl, sym, ap, subst, ◌∙◌, arith, eqb-true, eq-eqb}
+use Rattle.std.proofs.lemmas.Bool.{false_from_ne_true}
 use Rattle.std.specs.Option.{option_map}
 use Rattle.std.specs.List.{filter, find, list_any, AllByRecursion}
 use Rattle.host_types.specs.declared.entry.Body.{Body}
-use Rattle.host_types.specs.declared.entry.Body.TheVariants.{Register, Alive, Close, Command}
+use Rattle.host_types.specs.declared.entry.Body.TheVariants.{Register, Alive, Close, Tick, Command}
 use Rattle.host_types.specs.declared.entry.Effect.{Effect}
 use Rattle.host_types.specs.declared.entry.Effect.TheVariants.{Nothing, Create, Delete, Put, Drop, Wipe, WipeKey, Tell}
+use Rattle.host_types.specs.declared.entry.Event.{Event}
 use Rattle.host_types.specs.declared.entry.Reply.{Reply}
 use Rattle.host_types.specs.Cells.{Register_at, marked, Cells, at, stands, places_of, is_in_instance, without_owner}
 use Rattle.commit_lending.specs.Lent.{Lent, tokens, one_of}
-use Rattle.machine.specs.Release.{AreOut, CreatesAnew}
+use Rattle.machine.specs.Release.{AreOut, CreatesAnew, Releases}
+use Rattle.machine.proofs.ReleaseLaws.{releases_as, releases_none}
 use Rattle.event_batches.specs.Rising.{AreBelow}
 use Rattle.log_model.specs.plain.Plain.{Kept_batch, Kept_reply, Session, session_in}
 use Rattle.log_model.specs.hosted.Hosted.{Hosted}
 use Rattle.log_model.specs.hosted.Parts.{machine_after, put_owner_stands}
 use Rattle.log_model.specs.hosted.Sound.{IsSessionSound, IsPast, IsFree, Rises}
-use Rattle.log_model.specs.plain.Step.{changed, new_session, with_reply}
-use Rattle.log_model.specs.replay.Replay.{noted, pushed, replay_alive, replay_batches, replay_reply}
+use Rattle.log_model.specs.plain.Step.{changed, new_session, one_batch, with_reply}
+use Rattle.log_model.specs.replay.Replay.{noted, pushed, replay_alive, replay_reply}
 use Rattle.log_model.proofs.hosted.Admitted.{changed_same}
 use Rattle.log_model.proofs.hosted.Free.{index_free}
 use Rattle.log_model.specs.cleaning.Cells.{after}
-use Rattle.log_model.proofs.hosted.Sounds.{each_weaker, each_found}
+use Rattle.log_model.proofs.hosted.Sounds.{each_found, each_map, each_weaker, open_mapped}
+use Rattle.log_model.proofs.plain.OneSession.{closed_found}
+use Rattle.log_model.proofs.replay.Rising.{push_id, rises_map}
 use Rattle.session_table.specs.declared.view.SessionView.{SessionView}
-use Rattle.session_table.specs.Asked.{NewerReply}
-use Rattle.session_table.specs.Table.{Beside, Table, ids, alive_at, beside_changed, confirmed_of, view_of, view_at, session_at}
+use Rattle.session_table.specs.Asked.{NewerBatch, NewerReply}
+use Rattle.session_table.specs.Table.{Beside, KeepsRoom, Table, ids, beside_changed, confirmed_of, view_of, view_at, session_at}
 use Rattle.session_table.specs.Places.{cells_of, table_cells}
-use Rattle.host_core.specs.Entering.{AreKeptBefore, Entered, IsOut, Meets, beside_after, has_owner}
+use Rattle.host_core.specs.Batching.{AreBatchesOf, Batches, CanTakeAll, HaveBatchRoom, events_in, hears, told_above}
+use Rattle.host_core.specs.Entering.{AreKeptBefore, Entered, Meets, beside_after, has_owner, held_at, held_with}
+use Rattle.host_core.proofs.Giving.{given, given_above}
 use Rattle.host_core.proofs.Parts.{at_sessions}
-use Rattle.host_core.proofs.Standing.{places-append, commit_out, machine_out, table_out}
+use Rattle.host_core.proofs.Standing.{places-append, by_machine, by_table, commit_out, machine_out, table_out}
 use Rattle.host_core.proofs.Tables.{found_stands, not_heard, not_changed, ended, not_ended}
 
 module _ (index : ℕ) (machine : Cells) (table : Table) (lent : Lent) (m : Meets index machine table lent) where
@@ -42,17 +48,17 @@ module _ (index : ℕ) (machine : Cells) (table : Table) (lent : Lent) (m : Meet
   free = index_free s index m.sound m.behind
 
   -- the commit holds no place
-  none_of_machine : places_of machine index ≡ 0
-  none_of_machine = let sum = places-append machine (table_cells table) index in let none = free.unheld in omega (arith, sum, none)
+  pub none_held_at : held_at machine table index ≡ 0
+  none_held_at = let sum = places-append machine (table_cells table) index in let none = free.unheld in omega (arith, sum, none)
 
   pub none_of_table : places_of (table_cells table) index ≡ 0
-  none_of_table = let sum = places-append machine (table_cells table) index in let none = free.unheld in omega (arith, sum, none)
+  none_of_table = let none = none_held_at in omega (arith, none)
 
   pub none_held : places_of machine index ≡ 0
-  none_held = none_of_machine
+  none_held = let none = none_held_at in omega (arith, none)
 
   pub is_lent : tokens lent index ≡ 1
-  is_lent = commit_out index machine table lent m.out none_of_machine none_of_table
+  is_lent = commit_out index machine table lent m.out none_held_at
 
   pub machine_is_out : AreOut (places_of machine) lent
   machine_is_out = machine_out index machine table lent m.out
@@ -106,6 +112,41 @@ module _ (index : ℕ) (machine : Cells) (table : Table) (lent : Lent) (m : Meet
       go : (rs : List Kept_reply) → AllByRecursion (λ (r : Kept_reply). IsPast m.last r.index) rs → AreBelow index (map (λ (r : Kept_reply). r.index) rs)
       go [] a = tt
       go (r ∷ rs) a = (let past = a.0.1 in let low = m.behind in omega (arith, past, low), go rs a.1)
+
+  -- ---- the batches of the entry
+
+  -- a batch of this index is newer than those that a session keeps
+  newer : (id : ℕ) → NewerBatch index (session_at id table)
+  newer id = go (session_in id table.sessions) refl
+    where
+      below : (acked : ℕ) (bs : List Kept_batch) → AllByRecursion (λ (b : Kept_batch). (acked < b.index) × (b.index ≤ m.last)) bs → AreBelow index (map (λ (b : Kept_batch). b.index) bs)
+      below acked [] a = tt
+      below acked (b ∷ bs) a = (let past = a.0.1 in let low = m.behind in omega (arith, past, low), below acked bs a.1)
+
+      go : (o : Option Session) → session_in id table.sessions ≡ o → NewerBatch index o
+      go None e = tt
+      go (Some x) e = below x.acked_event x.batches (each_found (IsSessionSound m.last) table.sessions m.sound.sessions_are id x e).batches
+
+  pub can_take : (batches : Batches) (ended : Option ℕ) → HaveBatchRoom ended table batches → CanTakeAll index table batches
+  can_take batches ended have id has = let room = have id has in record { opened = room.opened; room = room.room; newer = newer id }
+
+  -- when a session was ended, the others can take theirs
+  pub can_take_left : (batches : Batches) (session : ℕ) (table' : Table) → HaveBatchRoom (Some session) table batches → table'.sessions ≡ filter (λ (x : Session). not (x.id == session)) table.sessions
+      → ((other : ℕ) → other ≢ session → KeepsRoom other table table') → CanTakeAll index table' batches
+  can_take_left batches session table' have sessions rooms id has =
+      let room = have id has in
+      let other : id ≢ session = λ e. (let yes = eq-eqb session id (sym e) in let no = room.stays in absurd (cc)) in
+      let found : session_at id table' ≡ session_at id table =
+      ap (session_in id) sessions ∙ closed_found id session table.sessions ∙ ap (λ b. cond b none (session_at id table)) (false_from_ne_true (id == session) (λ u. other (eqb-true id session u))) in
+      let more = (rooms id other).batches in
+      record {
+        opened = ap is_some found ∙ room.opened;
+        room = (let enough = room.room in omega (arith, enough, more));
+        newer = subst (NewerBatch index) (sym found) (newer id);
+      }
+    where
+      none : Option Session
+      none = None
 
   -- ---- the places of the sessions
 
@@ -204,68 +245,60 @@ open_changed id f own (x ∷ ss) =
       | false ↦ λ q. ap (λ z. is_some (cond z (Some x) (session_in id (changed id f ss)))) q ∙ open_changed id f own ss
     ] refl
 
-twice : (id : ℕ) (f g h : Session → Session) (P : Session → Type 0) → ((x : Session) → (g x).id ≡ x.id) → ((x : Session) → P x → f (g x) ≡ h x) → (ss : List Session) → AllByRecursion P ss → changed id f (changed id g ss) ≡ changed id h ss
-twice id f g h P own same [] a = refl
-twice id f g h P own same (x ∷ ss) a =
-    elim (x.id == id) as (λ b. (x.id == id) ≡ b → cond ((cond b (g x) x).id == id) (f (cond b (g x) x)) (cond b (g x) x) ∷ changed id f (changed id g ss) ≡ cond b (h x) x ∷ changed id h ss) [
-      | true ↦ λ q. (λ j. (ap (λ z. cond z (f (g x)) (g x)) (ap (λ n. n == id) (own x) ∙ q) ∙ same x a.0) j ∷ twice id f g h P own same ss a.1 j)
-      | false ↦ λ q. (λ j. cond (q j) (f x) x ∷ twice id f g h P own same ss a.1 j)
-    ] refl
-
--- where no batch is kept, it is as the log has it
-heard_so : (time seq event : ℕ) (x : Session) → x.batches ≡ [] → noted seq (alive_at time seq event x) ≡ replay_alive time seq event x
-heard_so time seq event x none = go (nat_lt event x.acked_event) refl
-  where
-    y : Session
-    y = record x { last_time = time; acked_seq = seq; replies = filter (λ r. nat_lt seq r.seq) x.replies }
-
-    with : ℕ → List Kept_batch → Session
-    with acked batches = record y { acked_event = acked; batches = batches }
-
-    kept : ℕ → List Kept_batch → List Kept_batch
-    kept acked bs = filter (λ b. nat_lt acked b.index) bs
-
-    go : (b : Bool) → nat_lt event x.acked_event ≡ b → noted seq (with (max x.acked_event event) (kept event x.batches)) ≡ noted seq (cond b y (with event (kept event x.batches)))
-    go true e =
-        let less = ltb-true event x.acked_event e in
-        let same : max x.acked_event event ≡ x.acked_event = omega (arith, less) in
-        (λ j. noted seq (with (same j) (kept event (none j))))
-        ∙ (λ j. noted seq (with x.acked_event (sym none j)))
-    go false e =
-        let not_less = ltb-false event x.acked_event e in
-        let same : max x.acked_event event ≡ event = omega (arith, not_less) in
-        (λ j. noted seq (with (same j) (kept event x.batches)))
-
-pub heard_as : (id time seq event : ℕ) (ss : List Session) → AllByRecursion (λ (x : Session). x.batches ≡ []) ss → changed id (noted seq) (changed id (alive_at time seq event) ss) ≡ changed id (replay_alive time seq event) ss
-heard_as id time seq event ss silent = twice id (noted seq) (alive_at time seq event) (replay_alive time seq event) (λ (x : Session). x.batches ≡ []) (λ x. refl) (heard_so time seq event) ss silent
-
 pub is_open : (id : ℕ) (t : Table) → is_some (view_at id t) ≡ is_some (session_in id t.sessions)
 is_open id t = elim (session_in id t.sessions) as (λ o. is_some (option_map (view_of (confirmed_of id t)) o) ≡ is_some o) [ None ↦ refl | Some x ↦ refl ]
 
 pub shut : (id : ℕ) (t : Table) → is_some (view_at id t) ≡ false → session_in id t.sessions ≡ None
 shut id t e = elim (session_in id t.sessions) as (λ o. is_some (option_map (view_of (confirmed_of id t)) o) ≡ false → o ≡ None) [ None ↦ λ q. refl | Some x ↦ λ q. absurd (cc) ] e
 
--- ---- nobody is told anything
+-- ---- who hears
 
-nothing_more : (bs : List Kept_batch) → bs ++ [] ≡ bs
-nothing_more [] = refl
-nothing_more (b ∷ bs) = ap (λ (r : List Kept_batch). b ∷ r) (nothing_more bs)
+-- whoever is among the sessions is open
+open_more : (id : ℕ) (y : Session) (ss : List Session) → is_some (session_in id ss) ≡ true → is_some (session_in id (y ∷ ss)) ≡ true
+open_more id y ss e = elim (y.id == id) as (λ b. is_some (cond b (Some y) (session_in id ss)) ≡ true) [ true ↦ refl | false ↦ e ]
 
-pub untold : (cut i : ℕ) (ss : List Session) → replay_batches cut i [] ss ≡ ss
-untold cut i ss = elim (nat_lt cut i) as (λ b. cond b (map (λ (x : Session). pushed i [] x) ss) ss ≡ ss) [ true ↦ each ss | false ↦ refl ]
+each_open : (ss : List Session) → AllByRecursion (λ (x : Session). is_some (session_in x.id ss) ≡ true) ss
+each_open [] = tt
+each_open (y ∷ ss) = (
+  ap (λ b. is_some (cond b (Some y) (session_in y.id ss))) (eq-eqb y.id y.id refl),
+  each_weaker (λ (x : Session). is_some (session_in x.id ss) ≡ true) (λ (x : Session). is_some (session_in x.id (y ∷ ss)) ≡ true) (λ x e. open_more x.id y ss e) ss (each_open ss),
+)
+
+all_hear : (ss : List Session) → AllByRecursion (λ (x : Session). hears None ss x.id ≡ true) ss
+all_hear ss = each_weaker (λ (x : Session). is_some (session_in x.id ss) ≡ true) (λ (x : Session). hears None ss x.id ≡ true) (λ x e. ap (λ b. b && true) e) ss (each_open ss)
+
+the_rest_hears : (session : ℕ) (all ss : List Session) → AllByRecursion (λ (x : Session). is_some (session_in x.id all) ≡ true) ss → AllByRecursion (λ (x : Session). hears (Some session) all x.id ≡ true) (filter (λ (x : Session). not (x.id == session)) ss)
+the_rest_hears session all [] a = tt
+the_rest_hears session all (x ∷ ss) a =
+    elim (x.id == session) as (λ b. (x.id == session) ≡ b → AllByRecursion (λ (x : Session). hears (Some session) all x.id ≡ true) (cond (not b) (x ∷ filter (λ (x : Session). not (x.id == session)) ss) (filter (λ (x : Session). not (x.id == session)) ss))) [
+      | true ↦ λ t. the_rest_hears session all ss a.1
+      | false ↦ λ t. (
+        (λ j. a.0 j && not (false_from_ne_true (session == x.id) (λ u. let yes = eq-eqb x.id session (sym (eqb-true session x.id u)) in absurd (cc)) j)),
+        the_rest_hears session all ss a.1,
+      )
+    ] refl
+
+-- ---- sessions that were given batches are as before but for these
+
+pub given_open : (i id : ℕ) (batches : Batches) (ss : List Session) → is_some (session_in id (given i batches ss)) ≡ is_some (session_in id ss)
+given_open i id batches ss = open_mapped id (λ x. pushed i (events_in x.id batches) x) (λ x. push_id i (events_in x.id batches) x) ss
+
+pub given_rises : (i : ℕ) (batches : Batches) (ss : List Session) → Rises ss → Rises (given i batches ss)
+given_rises i batches ss r = rises_map (λ x. pushed i (events_in x.id batches) x) (λ x. push_id i (events_in x.id batches) x) ss r
+
+pub given_kept_before : (i top : ℕ) (batches : Batches) (ss : List Session) → AreKeptBefore top ss → AreKeptBefore top (given i batches ss)
+given_kept_before i top batches ss a =
+    each_map (λ (x : Session). AreBelow top (map (λ (r : Kept_reply). r.index) x.replies)) (λ (x : Session). AreBelow top (map (λ (r : Kept_reply). r.index) x.replies)) (λ x. pushed i (events_in x.id batches) x)
+    (λ x b. subst (λ rs. AreBelow top (map (λ (r : Kept_reply). r.index) rs)) (sym (replies_stay (events_in x.id batches) x)) b) ss a
   where
-    one : (x : Session) → pushed i [] x ≡ x
-    one x = elim (nat_le i x.acked_event) as (λ b. cond b x (record x { batches = x.batches ++ [] }) ≡ x) [ true ↦ refl | false ↦ ap (λ bs. record x { batches = bs }) (nothing_more x.batches) ]
-
-    each : (ss : List Session) → map (λ (x : Session). pushed i [] x) ss ≡ ss
-    each [] = refl
-    each (x ∷ ss) = λ j. one x j ∷ each ss j
+    replies_stay : (es : List Event) (x : Session) → (pushed i es x).replies ≡ x.replies
+    replies_stay es x = elim (nat_le i x.acked_event) as (λ b. (cond b x (record x { batches = x.batches ++ one_batch i es })).replies ≡ x.replies) [ true ↦ refl | false ↦ refl ]
 
 -- ---- what was entered, by its body
 
-module _ (index time cut : ℕ) (machine : Cells) (table : Table) (lent : Lent) (m : Meets index machine table lent) where
+module _ (index time cut : ℕ) (told : List (ℕ × Event)) (machine : Cells) (table : Table) (lent : Lent) (m : Meets index machine table lent) where
   abbrev pub Done : Body → Cells → Table → Lent → Type 0
-  Done b machine' table' lent' = Entered index (record { time = time; body = b }) cut machine machine' table table' lent'
+  Done b machine' table' lent' = Entered index (record { time = time; body = b }) cut told machine machine' table table' lent lent'
 
   pub entered_register : (timeout : ℕ) (table' : Table) → table'.sessions ≡ table.sessions ++ new_session index time timeout ∷ [] → table_cells table' ≡ after (table_cells table) index (record { time = time; body = Register timeout })
       → ((j : ℕ) → places_of (table_cells table') j ≡ places_of (table_cells table) j + one_of index j) → table'.beside ≡ beside_after index (Register timeout) table.beside → Done (Register timeout) machine table' lent
@@ -274,26 +307,51 @@ module _ (index time cut : ℕ) (machine : Cells) (table : Table) (lent : Lent) 
     table_is = table_is;
     sessions_are = sessions;
     beside_is = beside;
-    out = λ j. (let all = m.out j in let more = places j in omega (arith, all, more));
+    released = releases_as (held_with index machine table) (held_with index machine table) (held_with index machine table) (held_at machine table') index lent lent (λ j. refl) (λ j. let more = places j in omega (arith, more)) (releases_none (held_with index machine table) index lent);
   }
 
-  pub entered_close : (session : ℕ) (expired : Bool) (machine' : Cells) (table' : Table) (lent' : Lent) → machine' ≡ without_owner session machine → table'.sessions ≡ filter (λ (x : Session). not (x.id == session)) table.sessions
-      → table_cells table' ≡ after (table_cells table) index (record { time = time; body = Close session expired }) → table'.beside ≡ beside_after index (Close session expired) table.beside → IsOut machine' table' lent' → Done (Close session expired) machine' table' lent'
-  entered_close session expired machine' table' lent' machine_is sessions table_is beside out = record {
-    machine_is = machine_is;
+  pub entered_alive : (session seq event : ℕ) (table' : Table) (lent' : Lent) → table'.sessions ≡ changed session (replay_alive time seq event) table.sessions
+      → table_cells table' ≡ after (table_cells table) index (record { time = time; body = Alive session seq event }) → table'.beside ≡ beside_after index (Alive session seq event) table.beside
+      → Releases (λ j. places_of (table_cells table) j + one_of index j) (places_of (table_cells table')) index lent lent' → Done (Alive session seq event) machine table' lent'
+  entered_alive session seq event table' lent' sessions table_is beside step = record {
+    machine_is = refl;
     table_is = table_is;
-    sessions_are = sessions ∙ sym (untold cut index (filter (λ (x : Session). not (x.id == session)) table.sessions));
+    sessions_are = sessions;
     beside_is = beside;
-    out = out;
+    released = by_table index machine table lent m.out table' lent' step;
   }
 
-  pub entered_command : (session seq : ℕ) (f : Effect) (reply : Reply) (machine' : Cells) (table' : Table) (lent' : Lent)
-      → machine' ≡ machine_after (machine ++ table_cells table) index (Command session seq f reply) machine
-      → table'.sessions ≡ changed session (replay_reply cut seq index reply) table.sessions → table'.beside ≡ table.beside → IsOut machine' table lent' → Done (Command session seq f reply) machine' table' lent'
-  entered_command session seq f reply machine' table' lent' machine_is sessions beside out = record {
+  pub entered_tick : (lent' : Lent) → ((held : ℕ → ℕ) → held index ≡ 0 → Releases (λ j. held j + one_of index j) held index lent lent') → Done Tick machine table lent'
+  entered_tick lent' own = record {
+    machine_is = refl;
+    table_is = refl;
+    sessions_are = refl;
+    beside_is = refl;
+    released = own (held_at machine table) (none_held_at index machine table lent m);
+  }
+
+  -- the sessions after the end of one, when the others were given their batches
+  pub entered_close : (session : ℕ) (expired : Bool) (batches : Batches) → AreBatchesOf (told_above cut index told) (Some session) table.sessions batches → (machine' : Cells) (mid table' : Table) (lent' : Lent) → machine' ≡ without_owner session machine
+      → mid.sessions ≡ filter (λ (x : Session). not (x.id == session)) table.sessions → table_cells mid ≡ after (table_cells table) index (record { time = time; body = Close session expired }) → mid.beside ≡ beside_after index (Close session expired) table.beside
+      → Releases (held_with index machine table) (held_at machine' mid) index lent lent' → table'.sessions ≡ given index batches mid.sessions → table'.beside ≡ mid.beside → Done (Close session expired) machine' table' lent'
+  entered_close session expired batches are machine' mid table' lent' machine_is sessions table_is beside step given_are same = record {
     machine_is = machine_is;
-    table_is = ap cells_of beside;
-    sessions_are = sessions ∙ ap (changed session (replay_reply cut seq index reply)) (sym (untold cut index table.sessions));
-    beside_is = beside;
-    out = λ j. out j ∙ ap (λ bs. places_of machine' j + places_of (cells_of bs) j) (sym beside);
+    table_is = ap cells_of same ∙ table_is;
+    sessions_are =
+        given_are ∙ ap (given index batches) sessions
+        ∙ given_above cut index told (Some session) table.sessions batches are (filter (λ (x : Session). not (x.id == session)) table.sessions) (the_rest_hears session table.sessions table.sessions (each_open table.sessions));
+    beside_is = same ∙ beside;
+    released = subst (λ bs. Releases (held_with index machine table) (λ j. places_of machine' j + places_of (cells_of bs) j) index lent lent') (sym same) step;
+  }
+
+  pub entered_command : (session seq : ℕ) (f : Effect) (reply : Reply) (batches : Batches) → AreBatchesOf (told_above cut index told) None table.sessions batches → (machine' : Cells) (mid table' : Table) (lent' : Lent)
+      → machine' ≡ machine_after (machine ++ table_cells table) index (Command session seq f reply) machine
+      → Releases (λ j. places_of machine j + one_of index j) (places_of machine') index lent lent' → mid.sessions ≡ given index batches table.sessions → mid.beside ≡ table.beside
+      → table'.sessions ≡ changed session (replay_reply cut seq index reply) mid.sessions → table'.beside ≡ mid.beside → Done (Command session seq f reply) machine' table' lent'
+  entered_command session seq f reply batches are machine' mid table' lent' machine_is step given_are same sessions stays = record {
+    machine_is = machine_is;
+    table_is = ap cells_of (stays ∙ same);
+    sessions_are = sessions ∙ ap (changed session (replay_reply cut seq index reply)) (given_are ∙ given_above cut index told None table.sessions batches are table.sessions (all_hear table.sessions));
+    beside_is = stays ∙ same;
+    released = subst (λ bs. Releases (held_with index machine table) (λ j. places_of machine' j + places_of (cells_of bs) j) index lent lent') (sym (stays ∙ same)) (by_machine index machine table lent m.out machine' lent' step);
   }

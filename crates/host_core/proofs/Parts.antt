@@ -13,7 +13,7 @@ use Rattle.host_types.specs.Cells.{Place, Name_at, Cell_at, Register_at, Alive_a
 use Rattle.log_model.specs.cleaning.Cells.{puts, covers, is_covered, uncovered, fits, after}
 use Rattle.log_model.specs.hosted.Hosted.{is_machine_place, machine_cells}
 use Rattle.log_model.specs.hosted.Parts.{machine_after, session_cells}
-use Rattle.log_model.proofs.Places.{place_total, exact_places}
+use Rattle.host_types.proofs.Places.{place_total, exact_places}
 use Rattle.log_model.proofs.Lookups.{T_from}
 use Rattle.log_model.proofs.cleaning.Changes.{or_else, at-put_all, at-uncovered, sorted-after}
 use Rattle.log_model.proofs.hosted.Parts.{part_follows}

@@ -10,7 +10,7 @@ use Rattle.host_types.specs.declared.entry.Body.{Body}
 use Rattle.host_types.specs.declared.entry.Body.TheVariants.{Alive, Close}
 use Rattle.host_types.specs.Cells.{Place, Register_at, Alive_at, Held, marked, place_cmp, Cells, at, stands, is_owned_by}
 use Rattle.log_model.specs.cleaning.Cells.{covers, is_covered, uncovered, is_session_place, after}
-use Rattle.log_model.proofs.Places.{place_total}
+use Rattle.host_types.proofs.Places.{place_total}
 use Rattle.session_table.specs.Table.{Beside, beside_changed}
 use Rattle.session_table.specs.Places.{alive_place, cells_of}
 

@@ -5,9 +5,11 @@ use Rattle.host_types.specs.declared.entry.Body.TheVariants as bodies
 use Rattle.host_types.specs.declared.entry.Effect.{Effect}
 use Rattle.host_types.specs.declared.entry.Effect.TheVariants.{Put}
 use Rattle.host_types.specs.declared.entry.Entry.{Entry}
+use Rattle.host_types.specs.declared.entry.Event.{Event}
 use Rattle.std.specs.List.{AllByRecursion, filter}
 use Rattle.host_types.specs.Cells.{Cells, places_of}
 use Rattle.commit_lending.specs.Lent.{Lent, tokens, one_of}
+use Rattle.machine.specs.Release.{Releases}
 use Rattle.log_model.specs.plain.Plain.{Session, session_in}
 use Rattle.log_model.specs.hosted.Hosted.{machine_cells}
 use Rattle.log_model.specs.hosted.Parts.{machine_after, session_cells}
@@ -18,16 +20,15 @@ use Rattle.session_table.specs.Table.{Beside, Table, IsOpen, beside_alive, besid
 use Rattle.session_table.specs.Places.{table_cells}
 use Rattle.host_core.specs.Parts.{sessions_after}
 
--- exactly what holds a place of the machine or of the sessions is out
-abbrev pub IsOut : Cells → Table → Lent → Type 0
-IsOut machine table lent = (j : ℕ) → tokens lent j ≡ places_of machine j + places_of (table_cells table) j
+-- at how many places of the machine or of the sessions an index is held
+abbrev pub held_at : Cells → Table → ℕ → ℕ
+held_at machine table j = places_of machine j + places_of (table_cells table) j
 
--- and so is the commit of this index, which holds none
-abbrev pub IsOutWith : ℕ → Cells → Table → Lent → Type 0
-IsOutWith index machine table lent = (j : ℕ) → tokens lent j ≡ (places_of machine j + places_of (table_cells table) j) + one_of index j
+-- the same with the commit of this index, which is to hold one
+abbrev pub held_with : ℕ → Cells → Table → ℕ → ℕ
+held_with index machine table j = held_at machine table j + one_of index j
 
--- A commit stands before a host's machine and sessions: their state is sound, and the commit is behind it and out. Sessions keep no
--- batches.
+-- A commit stands before a host's machine and sessions: their state is sound, and the commit is behind it and out.
 pub record Meets (index : ℕ) (machine : Cells) (table : Table) (lent : Lent) : Type 0 where
   pub last : ℕ
   pub time : ℕ
@@ -35,8 +36,8 @@ pub record Meets (index : ℕ) (machine : Cells) (table : Table) (lent : Lent) :
   pub machine_is : machine_cells (machine ++ table_cells table) ≡ machine
   pub table_is : session_cells (machine ++ table_cells table) ≡ table_cells table
   pub behind : last < index
-  pub out : IsOutWith index machine table lent
-  pub silent : AllByRecursion (λ (x : Session). x.batches ≡ []) table.sessions
+  -- exactly what holds a place is out, and so is the commit, which holds none
+  pub out : (j : ℕ) → tokens lent j ≡ held_with index machine table j
 
 -- each session's kept replies are of entries before this index
 abbrev pub AreKeptBefore : ℕ → List Session → Type 0
@@ -61,10 +62,11 @@ beside_after index (bodies.Alive session seq event) bs = beside_changed session 
 beside_after index (bodies.Close session expired) bs = filter (λ b. not (b.id == session)) bs
 beside_after index _ bs = bs
 
--- The entry was entered: each part has followed, and exactly what holds a place is out.
-pub record Entered (index : ℕ) (e : Entry) (cut : ℕ) (machine machine' : Cells) (table table' : Table) (lent' : Lent) : Type 0 where
+-- The entry, which tells this, was entered: each part has followed. Exactly what held a place and holds none now was closed, once each
+-- and with this entry's index, and this entry itself if it holds none.
+pub record Entered (index : ℕ) (e : Entry) (cut : ℕ) (told : List (ℕ × Event)) (machine machine' : Cells) (table table' : Table) (lent lent' : Lent) : Type 0 where
   pub machine_is : machine' ≡ machine_after (machine ++ table_cells table) index e.body machine
   pub table_is : table_cells table' ≡ sessions_after index e (table_cells table)
-  pub sessions_are : table'.sessions ≡ replay_sessions cut index e.time [] e.body table.sessions
+  pub sessions_are : table'.sessions ≡ replay_sessions cut index e.time told e.body table.sessions
   pub beside_is : table'.beside ≡ beside_after index e.body table.beside
-  pub out : IsOut machine' table' lent'
+  pub released : Releases (held_with index machine table) (held_at machine' table') index lent lent'

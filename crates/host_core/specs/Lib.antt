@@ -1,4 +1,5 @@
 pub mod Answers
+pub mod Batching
 pub mod Entering
 pub mod Parts
 pub mod Seen

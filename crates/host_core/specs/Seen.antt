@@ -5,14 +5,13 @@ use Rattle.host_types.specs.declared.entry.Body.{Body}
 use Rattle.host_types.specs.declared.entry.Effect.{Effect}
 use Rattle.host_types.specs.Cells.{Cells, places_of}
 use Rattle.host_types.specs.Decision.{MachineDecision}
-use Rattle.std.specs.List.{AllByRecursion}
 use Rattle.commit_lending.specs.Lent.{Lent, lent_code, tokens}
-use Rattle.log_model.specs.plain.Plain.{Session}
 use Rattle.session_table.specs.Table.{Table}
 use Rattle.session_table.specs.Places.{table_cells}
 use Rattle.log_model.specs.hosted.Hosted.{Hosted, machine_cells}
 use Rattle.log_model.specs.hosted.Parts.{session_cells}
 use Rattle.log_model.specs.hosted.Sound.{IsSound}
+use Rattle.host_core.specs.Batching.{AreBatchesOf, Batches, HaveBatchRoom, ended_by, told_above, told_by}
 use Rattle.host_core.specs.Entering.{HasRoomFor}
 
 pub record Seen (M : Type 0) : Type 0 where
@@ -33,27 +32,22 @@ seen_code {M} code table_code =
 abbrev pub hosted : {M : Type 0} → (M → Cells) → Seen M → Hosted
 hosted cells s = record { last = s.last; now = s.time; sessions = s.sessions.sessions; cells = cells s.machine ++ table_cells s.sessions }
 
--- the machine tells nobody anything
-pub record TellsNothing (d : MachineDecision) : Type 0 where
-  pub tells : (cells : Cells) (effect : Effect) (index : ℕ) → d.tells cells effect index ≡ []
-  pub tells_close : (cells : Cells) (session : ℕ) → d.tells_close cells session ≡ []
-
 -- ---- what a core keeps
 
 -- The state is a host's; its cells are the machine's and those of the sessions; and exactly what holds a cell is out at the lender.
-pub record IsKept {M : Type 0} (cells : M → Cells) (d : MachineDecision) (s : Seen M) : Type 0 where
+pub record IsKept {M : Type 0} (cells : M → Cells) (s : Seen M) : Type 0 where
   pub sound : IsSound (hosted cells s)
   pub machine : machine_cells (hosted cells s).cells ≡ cells s.machine
   pub sessions : session_cells (hosted cells s).cells ≡ table_cells s.sessions
   pub out : (j : ℕ) → tokens s.lender j ≡ places_of (hosted cells s).cells j
   pub closed : s.lender.closed ≡ []
-  pub tells : TellsNothing d
-  -- so nobody keeps a batch
-  pub silent : AllByRecursion (λ (x : Session). x.batches ≡ []) s.sessions.sessions
 
 -- ---- room
 
--- there is room for the commit of one more entry, and for all that it puts, where this says what a machine is ready for
-pub record IsPrepared {M : Type 0} (ready : M → Effect → ℕ → Type 0) (s : Seen M) (index : ℕ) (body : Body) : Type 0 where
+-- There is room for the commit of one more entry, and for all that it puts, where this says what a machine is ready for. These are the
+-- batches that the entry makes above the cut, and there is room for each.
+pub record IsPrepared {M : Type 0} (cells : M → Cells) (ready : M → Effect → ℕ → Type 0) (d : MachineDecision) (s : Seen M) (cut index : ℕ) (body : Body) (batches : Batches) : Type 0 where
   pub commit : 1 ≤ s.lender.spare
   pub entry : HasRoomFor (ready s.machine) s.sessions index body
+  pub batches_are : AreBatchesOf (told_above cut index (told_by d (cells s.machine) index body)) (ended_by body) s.sessions.sessions batches
+  pub batch_room : HaveBatchRoom (ended_by body) s.sessions batches

@@ -1,5 +1,5 @@
 // The core of a host: its machine, its sessions and its commits.
-ghost use Rattle.std.specs.Prelude.{◌≡◌, ℕ, ◌≤◌, ◌<◌, ◌+◌, [], IfOk, IfSome, OnOk, OnErr};
+ghost use Rattle.std.specs.Prelude.{◌≡◌, ℕ, ◌≤◌, ◌<◌, ◌+◌, [], cond, is_ok, IfErr, IfOk, IfSome, OnOk, OnErr};
 ghost use Rattle.host_types.specs.Cells.{places_of};
 ghost use Rattle.host_types.specs.Ranges.{EntryFits, IsInRange, IsIndex};
 ghost use Rattle.commit_lending.specs.Lent.{tokens};
@@ -8,20 +8,22 @@ ghost use Rattle.log_model.specs.hosted.Hosted.{hosted_admits, hosted_entry, hos
 ghost use Rattle.log_model.specs.replay.Replay.{replay_entry};
 ghost use Rattle.log_model.specs.hosted.Sound.{IsSound};
 ghost use Rattle.host_core.specs.Answers.{Decides_as, IsStorable};
-ghost use Rattle.session_table.specs.Table.{IsSame};
+ghost use Rattle.session_table.specs.Asked.{confirms};
+ghost use Rattle.session_table.specs.Table.{IsOpen, IsSame, beside_changed, beside_confirmed, confirmed_of};
 ghost use Rattle.host_core.specs.Entering.{beside_after};
-ghost use Rattle.host_core.specs.Seen.{IsPrepared, TellsNothing, hosted};
+ghost use Rattle.host_core.specs.Seen.{IsPrepared, hosted};
 
+use crate::batching::Batches;
 use crate::deciding::{DecideError, Decided, decide_ask, decide_at_end};
 use crate::entering::{drop_closed, enter, make_room};
 use commit_lending::Lender;
-use host_types::{Entry, Index, NoMemory, Offer, Refusal, Time};
+use host_types::{Body, Entry, Index, NoMemory, Offer, Refusal, Time};
 use machine::Machine;
 use session_table::Sessions;
 use std::alloc::Global;
 use std::marker::Model;
 
-/// The state of a host in memory, over any machine that tells nobody anything. It is seen as its machine, its sessions, its lender,
+/// The state of a host in memory, over any machine. It is seen as its machine, its sessions, its lender,
 /// the last index and the log's time (`Seen`); together they are the state `hosted`.
 ///
 /// What it makes of offers and entries is told by the machine's decision alone (`log_model`'s `Hosted` and `Replay`). Between two
@@ -44,19 +46,27 @@ impl<M: Machine> Model for Core<M> {
 
     ghost view = { λ c. record { machine = c.machine; sessions = c.sessions; lender = c.lender; last = c.last; time = c.time } };
 
-    ghost invariant = { λ c. IsKept M.cells M.decides (record { machine = c.machine; sessions = c.sessions; lender = c.lender; last = c.last; time = c.time }) };
+    ghost invariant = { λ c. IsKept M.cells (record { machine = c.machine; sessions = c.sessions; lender = c.lender; last = c.last; time = c.time }) };
 }
 
-/// Room for one entry, made by `reserve`. It is spent by `apply` or by `cancel`.
+/// Room for one entry, made by `reserve`, with the batches of events that the entry makes. It is spent by `apply` or by `cancel`, and
+/// is seen as the batches.
 pub struct Prepared {
-    index: Index,
+    batches: Batches,
+}
+
+impl Model for Prepared {
+    ghost use Rattle.host_core.specs.Batching.{Batches};
+
+    ghost Value = { Batches };
+
+    ghost view = { λ prepared. prepared.batches.entries };
 }
 
 impl<M: Machine> Core<M> {
     /// A core of the empty log. The machine has no cell. It takes no memory.
     pub fn new(alloc: Global, machine: M) -> Core<M>
-        requires none { M.cells machine ≡ [] }
-        requires tells { TellsNothing M.decides }
+        requires { M.cells machine ≡ [] }
         ensures { hosted M.cells result ≡ hosted_nothing }
     {
         Core {
@@ -146,14 +156,31 @@ impl<M: Machine> Core<M> {
         decide_at_end(asked, offer.time, self.last)
     }
 
-    /// Makes room to apply the entry with this index, once. Nothing else is changed, whatever it answers.
+    /// Makes room to apply the entry with this index, once, and the batches that the entry makes. Nothing else is changed, whatever it
+    /// answers.
     pub fn reserve(
         &mut self,
         alloc: Global,
         index: Index,
         entry: &Entry,
     ) -> Result<Prepared, NoMemory>
-        ensures prepared { OnOk result (IsPrepared M.is_ready self.new index entry.now.body) }
+        ensures prepared { IfOk result (IsPrepared M.cells M.is_ready M.decides self.new 0 index entry.now.body) }
+        ensures state { hosted M.cells self.new ≡ hosted M.cells self.old }
+        ensures sessions { IsSame self.old.sessions self.new.sessions }
+    {
+        let batches = self.make_room(alloc, index, &entry.body, 0)?;
+        Ok(Prepared { batches })
+    }
+
+    /// Makes room for an entry, and the batches that it makes above the cut.
+    fn make_room(
+        &mut self,
+        alloc: Global,
+        index: Index,
+        body: &Body,
+        cut: Index,
+    ) -> Result<Batches, NoMemory>
+        ensures prepared { IfOk result (λ batches. IsPrepared M.cells M.is_ready M.decides self.new cut index body.now batches.entries) }
         ensures state { hosted M.cells self.new ≡ hosted M.cells self.old }
         ensures sessions { IsSame self.old.sessions self.new.sessions }
     {
@@ -165,9 +192,9 @@ impl<M: Machine> Core<M> {
             &mut self.machine,
             &mut self.sessions,
             index,
-            &entry.body,
-        )?;
-        Ok(Prepared { index })
+            body,
+            cut,
+        )
     }
 
     /// Applies an entry whose index is behind the last one, into the room that was made for it. It takes no memory and can't fail.
@@ -175,12 +202,12 @@ impl<M: Machine> Core<M> {
         requires behind { self.old.last < index }
         requires fits { EntryFits entry }
         requires range { IsInRange index entry }
-        requires prepared { IsPrepared M.is_ready self.old index entry.body }
+        requires prepared { IsPrepared M.cells M.is_ready M.decides self.old 0 index entry.body prepared }
         ensures state { hosted M.cells self.new ≡ replay_entry (hosted_told M.decides) 0 (hosted M.cells self.old) (index, entry) }
         ensures beside { self.new.sessions.beside ≡ beside_after index entry.body self.old.sessions.beside }
     {
-        let Prepared { index: _ } = prepared;
-        self.take(index, entry, 0);
+        let Prepared { batches } = prepared;
+        self.take(index, entry, batches, 0);
     }
 
     /// Gives the room back.
@@ -188,11 +215,11 @@ impl<M: Machine> Core<M> {
         ensures state { hosted M.cells self.new ≡ hosted M.cells self.old }
         ensures sessions { IsSame self.old.sessions self.new.sessions }
     {
-        let Prepared { index: _ } = prepared;
+        let Prepared { batches: _batches } = prepared;
     }
 
-    /// Takes the next entry of a log that is opened again, whose index is behind the last one. At or below the cut no reply is kept.
-    /// After an error all is as before.
+    /// Takes the next entry of a log that is opened again, whose index is behind the last one. At or below the cut no reply and
+    /// no batch is kept. After an error all is as before.
     pub fn replay(
         &mut self,
         alloc: Global,
@@ -208,17 +235,17 @@ impl<M: Machine> Core<M> {
         ensures beside { OnOk result (self.new.sessions.beside ≡ beside_after index entry.body self.old.sessions.beside) }
         ensures sessions { OnErr result (IsSame self.old.sessions self.new.sessions) }
     {
-        let Prepared { index: _ } = self.reserve(alloc, index, &entry)?;
-        self.take(index, entry, cut);
+        let batches = self.make_room(alloc, index, &entry.body, cut)?;
+        self.take(index, entry, batches, cut);
         Ok(())
     }
 
     /// Enters an entry into the room that was made for it.
-    fn take(&mut self, index: Index, entry: Entry, cut: Index)
+    fn take(&mut self, index: Index, entry: Entry, batches: Batches, cut: Index)
         requires behind { self.old.last < index }
         requires fits { EntryFits entry }
         requires range { IsInRange index entry }
-        requires prepared { IsPrepared M.is_ready self.old index entry.body }
+        requires prepared { IsPrepared M.cells M.is_ready M.decides self.old cut index entry.body batches.entries }
         ensures state { hosted M.cells self.new ≡ replay_entry (hosted_told M.decides) cut (hosted M.cells self.old) (index, entry) }
         ensures beside { self.new.sessions.beside ≡ beside_after index entry.body self.old.sessions.beside }
     {
@@ -230,11 +257,24 @@ impl<M: Machine> Core<M> {
             &mut self.lender,
             commit,
             entry,
+            batches,
             cut,
         );
         drop_closed(&mut self.lender);
         self.last = index;
         self.time = time;
+    }
+
+    /// Confirms the batch of an open session that is to be served, by its index. To confirm the last confirmed event again is right and
+    /// changes nothing. Any other event is refused with the confirmed one, and changes nothing. It isn't stored, and takes no memory.
+    pub fn confirm(&mut self, id: Index, event: Index) -> Result<(), Index>
+        requires { IsOpen id self.old.sessions }
+        ensures answer { is_ok result ≡ confirms id event self.old.sessions }
+        ensures err { IfErr result (λ at. at ≡ confirmed_of id self.old.sessions) }
+        ensures state { hosted M.cells self.new ≡ hosted M.cells self.old }
+        ensures beside { self.new.sessions.beside ≡ cond (is_ok result) (beside_changed id (beside_confirmed event) self.old.sessions.beside) self.old.sessions.beside }
+    {
+        self.sessions.confirm(id, event)
     }
 
     /// Ends it: all that it holds is retired. It takes no memory.

@@ -13,7 +13,7 @@ ghost use Rattle.log_model.specs.plain.Admission.{Item};
 ghost use Rattle.log_model.specs.hosted.Hosted.{hosted_nothing, hosted_told};
 ghost use Rattle.log_model.specs.cleaning.Layout.{alone};
 ghost use Rattle.log_model.specs.replay.Replay.{replay_from, replayed};
-ghost use Rattle.host_core.specs.Seen.{TellsNothing, hosted};
+ghost use Rattle.host_core.specs.Seen.{hosted};
 ghost use Rattle.host_recovery.specs.Standing.{StandsAt, StandsFor, StoresBuilt, layout_in};
 ghost use Rattle.host_recovery.specs.Lying.{Lies};
 ghost use Rattle.host_recovery.specs.Opening.{HasPrefix, IsInOrder, OpensAt, disk_behind, went};
@@ -92,7 +92,6 @@ impl<D: Disk, M: Machine> Host<D, M> {
         segment: u32,
     ) -> Result<Host<D, M>, (D, OpenError)>
         requires none { M.cells machine ≡ [] }
-        requires tells { TellsNothing M.decides }
         requires built { StoresBuilt M.decides }
         requires least { 2 ≤ segment }
         requires most { segment ≤ 65536 }
@@ -140,8 +139,7 @@ impl<D: Disk, M: Machine> Host<D, M> {
     /// A host that is stopped opens what its folder stands for, as `open` does. One that runs stands at the same log again, and so
     /// does whatever a crash leaves on the way.
     pub fn reopen(&mut self, alloc: Global, machine: M) -> Result<(), OpenError>
-        requires none { M.cells machine ≡ [] }
-        requires tells { TellsNothing M.decides }
+        requires { M.cells machine ≡ [] }
         ensures runs { OnOk result (self.new.stopped ≡ false) }
         ensures stops { OnErr result (self.new.stopped ≡ true) }
 

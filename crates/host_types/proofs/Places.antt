@@ -3,10 +3,10 @@ use Rattle.std.proofs.Common.{◌≡◌, ℕ, zero, suc, List, [], refl, sym, ap
 use Rattle.std.specs.FinMap.{IsAntisymmetric, nat_cmp-IsAntisymmetric, slice_cmp-IsAntisymmetric}
 use Rattle.std.specs.Ordering.{nat_cmp, ordering_then}
 use Rattle.std.specs.Cmp.{IsTotalOrder, on_total, then_total, nat_cmp_total}
-use Rattle.std.specs.Cmp.Lexicographic.{nat_list_cmp_total}
 use Rattle.host_types.specs.declared.entry.Cell.{Cell}
 use Rattle.host_types.specs.declared.entry.Cell.TheVariants.{One, Named, Member, Pair, At, Waiter, Of}
 use Rattle.host_types.specs.Cells.{Place, Name_at, Cell_at, Register_at, Alive_at, text_cmp, cell_parts, cell_cmp, place_parts, place_cmp}
+use Rattle.host_types.specs.CellOrder.{cell_total}
 
 then_equal : (a b : Ordering) → ordering_then a b ≡ Equal → (a ≡ Equal) × (b ≡ Equal)
 then_equal Less b e = absurd (cc)
@@ -15,10 +15,6 @@ then_equal Greater b e = absurd (cc)
 
 pub exact_texts : IsAntisymmetric text_cmp
 exact_texts = slice_cmp-IsAntisymmetric nat_cmp-IsAntisymmetric
-
-pub cell_total : IsTotalOrder cell_cmp
-cell_total =
-    then_total (on_total (λ c. (cell_parts c).0) nat_cmp_total) (then_total (on_total (λ c. (cell_parts c).1) nat_list_cmp_total) (then_total (on_total (λ c. (cell_parts c).2) nat_list_cmp_total) (then_total (on_total (λ c. (cell_parts c).3) nat_cmp_total) (on_total (λ c. (cell_parts c).4) nat_cmp_total))))
 
 pub place_total : IsTotalOrder place_cmp
 place_total = then_total (on_total (λ p. (place_parts p).0) nat_cmp_total) (then_total (on_total (λ p. (place_parts p).1) nat_cmp_total) (on_total (λ p. (place_parts p).2) cell_total))

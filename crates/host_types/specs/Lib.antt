@@ -1,3 +1,4 @@
+pub mod CellOrder
 pub mod Cells
 pub mod Decision
 pub mod Limits

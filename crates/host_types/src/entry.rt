@@ -1,5 +1,6 @@
 // What is offered, what is stored, what is answered, and why an offer is refused.
-ghost use Rattle.std.specs.Prelude.{◌≡◌, IfOk};
+ghost use Rattle.std.specs.Prelude.{◌≡◌, min, pos, IfOk};
+ghost use Rattle.host_types.specs.declared.entry.Reply.TheVariants.{Number as Number_reply};
 
 use crate::NoMemory;
 use crate::lists::{Indexes, Words};
@@ -139,7 +140,7 @@ pub enum Body {
 }
 
 /// A place of one instance. Cells stand in the order of these variants, and then of their fields.
-#[derive(Debug, PartialEq, Eq, Drop)]
+#[derive(Debug, Drop)]
 pub enum Cell {
     /// The only one of a value or a counter.
     One,
@@ -164,6 +165,19 @@ pub enum Content {
     Mark,
     Text(Word),
     Number(i64),
+}
+
+impl Content {
+    /// The same once more.
+    pub fn copy(&self) -> Result<Content, NoMemory>
+        ensures { IfOk result (λ copy. copy ≡ self.now) }
+    {
+        Ok(match self {
+            Content::Mark => Content::Mark,
+            Content::Text(word) => Content::Text(word.copy()?),
+            Content::Number(number) => Content::Number(*number),
+        })
+    }
 }
 
 /// What a command does to the cells.
@@ -222,6 +236,13 @@ pub enum Reply {
 }
 
 impl Reply {
+    /// How many there are: the number itself, or 9223372036854775807 where there are more.
+    pub fn count(number: usize) -> Reply
+        ensures { result ≡ Number_reply (pos (min number 9223372036854775807)) }
+    {
+        Reply::Number(number.min(9_223_372_036_854_775_807) as i64)
+    }
+
     /// The same once more.
     pub fn copy(&self) -> Result<Reply, NoMemory>
         ensures { IfOk result (λ copy. copy ≡ self.now) }

@@ -1,6 +1,7 @@
 //! The words that every layer speaks of: names of logs, keys and words, offers, entries, replies and refusals.
 #![tactic(auto)]
 
+mod cell;
 mod entry;
 mod fits;
 mod lists;

@@ -1,8 +1,6 @@
 // A core over the catalog, as a host uses it: each offer is decided, stored as the next entry, and applied; or a log is replayed.
 ghost use Rattle.std.specs.Prelude.{◌≡◌, ◌+◌};
 ghost use Rattle.host_types.specs.Ranges.{EntryFits, IsInRange};
-ghost use Rattle.host_core.specs.Seen.{TellsNothing};
-ghost use Rattle.resource_catalog.specs.Catalog.{catalog_decision};
 
 use crate::checks::{key, same};
 use host_core::{Core, DecideError, Decided};
@@ -21,18 +19,10 @@ enum Outcome {
     NoMemory,
 }
 
-/// The catalog of today tells nobody anything.
-fn catalog_tells_nothing()
-    ensures { TellsNothing catalog_decision }
-{
-    resource_catalog::catalog_tells_nothing();
-}
-
 /// A core of the empty log over the catalog.
 fn core_of_nothing(alloc: Global) -> Core<Catalog>
     ensures { result.last ≡ 0 }
 {
-    catalog_tells_nothing();
     Core::new(alloc, Catalog::new(alloc))
 }
 

@@ -18,6 +18,8 @@ mod disk_memory_tests;
 #[cfg(test)]
 mod event_batches_tests;
 #[cfg(test)]
+mod host_core_batch_tests;
+#[cfg(test)]
 mod host_core_tests;
 #[cfg(test)]
 mod host_types_tests;
@@ -35,5 +37,7 @@ mod script_io_tests;
 mod script_text_tests;
 #[cfg(test)]
 mod session_table_tests;
+#[cfg(test)]
+mod teller;
 #[cfg(test)]
 mod value_counter_tests;

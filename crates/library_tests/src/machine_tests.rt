@@ -77,10 +77,10 @@ fn left(rt: &impl Abort, alloc: Global) -> Event {
 }
 
 /// The sessions that are told, in order.
-fn sessions_of(rt: &impl Abort, alloc: Global, told: &Told) -> Vec<Index> {
+fn sessions_of(rt: &impl Abort, alloc: Global, told: Told) -> Vec<Index> {
     let mut sessions = Vec::new(alloc);
-    for (session, _) in told.as_slice() {
-        sessions.push(*session).expect(rt, "memory");
+    for (session, _) in told.into_items() {
+        sessions.push(session).expect(rt, "memory");
     }
     sessions
 }
@@ -91,8 +91,10 @@ fn events_are_told_in_order(rt: HostRuntime) {
     let mut told = Told::new(alloc);
     told.push((2, left(&rt, alloc))).expect(&rt, "memory");
     told.push((1, left(&rt, alloc))).expect(&rt, "memory");
-    let sessions = sessions_of(&rt, alloc, &told);
-    same(&rt, sessions.as_slice(), &[2, 1]);
+    let mut more = Told::new(alloc);
+    more.push((3, left(&rt, alloc))).expect(&rt, "memory");
+    told.append(more).expect(&rt, "memory");
+    let sessions = sessions_of(&rt, alloc, told);
+    same(&rt, sessions.as_slice(), &[2, 1, 3]);
     drop(sessions);
-    drop(told);
 }

@@ -117,11 +117,9 @@ pub fn listed<M: Machine>(rt: &impl Abort, machine: &M, alloc: Global) -> Vec<Pl
     let told = machine
         .tells(alloc, &Effect::Wipe { instance: 2 }, 90)
         .expect(rt, "memory");
-    same(rt, told.as_slice().len(), 0);
-    drop(told);
+    same(rt, told.into_items().len(), 0);
     let told = machine.tells_close(alloc, 1).expect(rt, "memory");
-    same(rt, told.as_slice().len(), 0);
-    drop(told);
+    same(rt, told.into_items().len(), 0);
     cells
 }
 

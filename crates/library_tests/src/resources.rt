@@ -108,11 +108,9 @@ fn listed<R: Resource>(rt: &impl Abort, resource: &R, alloc: Global) -> Vec<Plac
     let told = resource
         .tells(alloc, &name, &Effect::Nothing, 90)
         .expect(rt, "memory");
-    same(rt, told.as_slice().len(), 0);
-    drop(told);
+    same(rt, told.into_items().len(), 0);
     let told = resource.tells_close(alloc, &name, 1).expect(rt, "memory");
-    same(rt, told.as_slice().len(), 0);
-    drop(told);
+    same(rt, told.into_items().len(), 0);
     drop(name);
     cells
 }

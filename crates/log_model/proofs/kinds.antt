@@ -4,9 +4,11 @@ pub mod Bridges
 pub mod Gather
 pub mod Keyed
 pub mod KindLaws
+pub mod Listings
 pub mod Readings
 pub mod RowLaws
 pub mod RowStores
 pub mod ShownCloses
 pub mod ShownResources
 pub mod ShownRows
+pub mod Tabled

@@ -1,5 +1,6 @@
 // Commits that cells were held by go back.
 ghost use Rattle.std.specs.Prelude.{◌≡◌, ℕ, ◌+◌};
+ghost use Rattle.commit_lending.specs.Lent.{one_of, tokens};
 ghost use Rattle.machine.specs.Holding.{held_by, IsLent};
 ghost use Rattle.machine.specs.Release.{AreOut, Releases, Retires};
 
@@ -18,6 +19,17 @@ pub fn close_held(commit: Option<Commit>, by: Index, lender: &mut Lender)
         Some(commit) => lender.close(commit, by),
         None => {}
     }
+}
+
+/// Closes a commit that holds no cell, by its own index.
+///
+/// Beside whatever is held and isn't its own, the step is what the release law asks of an entry that puts no cell.
+pub fn close_own(commit: Commit, lender: &mut Lender)
+    requires { tokens lender.old commit ≡ 1 }
+    ensures { (held : ℕ → ℕ) → held commit ≡ 0 → Releases (λ j. held j + one_of commit j) held commit lender.old lender.new }
+{
+    let index = commit.index();
+    lender.close(commit, index);
 }
 
 /// Retires the commit that held a cell, if there was one.

@@ -10,7 +10,7 @@ mod resource;
 mod told;
 
 pub use decision::{Decision, Refuse};
-pub use held::{close_held, retire_held};
+pub use held::{close_held, close_own, retire_held};
 pub use machine::Machine;
 pub use place::Place;
 pub use resource::Resource;

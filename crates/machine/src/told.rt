@@ -39,10 +39,21 @@ impl Told {
         Ok(())
     }
 
-    /// All of them, in order.
-    pub fn as_slice(&self) -> &[(Index, Event)]
-        ensures { result.now ≡ self.now }
+    /// Moves the events of another list behind its own. After an error all of its own are as before.
+    pub fn append(&mut self, more: Told) -> Result<(), NoMemory>
+        ensures ok { OnOk result (self.new ≡ self.old ++ more) }
+        ensures err { OnErr result (self.new ≡ self.old) }
     {
-        &self.items
+        let Told { mut items } = more;
+        self.items.append(&mut items)?;
+        Ok(())
+    }
+
+    /// All of them, in order.
+    pub fn into_items(self) -> Vec<(Index, Event)>
+        ensures { result.items ≡ self }
+    {
+        let Told { items } = self;
+        items
     }
 }

@@ -1,7 +1,6 @@
 // A host over a disk in memory and the catalog: each of its calls is made.
 ghost use Rattle.std.specs.Prelude.{◌≡◌, true};
 ghost use Rattle.host_types.specs.Decision.{is_looking};
-ghost use Rattle.host_core.specs.Seen.{TellsNothing};
 ghost use Rattle.host_recovery.specs.Standing.{StoresBuilt};
 ghost use Rattle.resource_catalog.specs.Catalog.{catalog_decision};
 
@@ -15,13 +14,10 @@ use std::process::Abort;
 
 type TestHost = Host<MemoryDisk, Catalog>;
 
-/// The catalog can be hosted: it tells nobody anything, and files may hold what it decides.
+/// The catalog can be hosted: files may hold what it decides.
 fn catalog_suits()
-    ensures tells { TellsNothing catalog_decision }
-    ensures built { StoresBuilt catalog_decision }
-{
-    resource_catalog::catalog_tells_nothing();
-}
+    ensures { StoresBuilt catalog_decision }
+{}
 
 fn key(rt: &impl Abort, alloc: Global, text: &[u8]) -> Key {
     Key::new(alloc, text).expect(rt, "a key")

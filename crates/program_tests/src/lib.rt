@@ -3,6 +3,8 @@
 #![tactic(auto)]
 
 #[cfg(test)]
+mod folder_tests;
+#[cfg(test)]
 mod host_tests;
 #[cfg(test)]
 mod long_tests;

@@ -9,7 +9,6 @@ use Rattle.std.specs.Cmp.{nat_eq_equiv}
 use Rattle.host_types.specs.Cells.{Name_at, Cell_at, Held, Cells, place_cmp, at, named as held_name}
 use Rattle.host_types.specs.Decision.{Decides, Declines, is_looking}
 use Rattle.host_types.specs.declared.entry.Kind.{Kind}
-use Rattle.host_types.specs.declared.entry.Kind.TheVariants as kinds
 use Rattle.host_types.specs.declared.entry.Cell.{Cell}
 use Rattle.host_types.specs.declared.entry.Effect.{Effect}
 use Rattle.host_types.specs.declared.entry.Op.{Op}
@@ -37,7 +36,6 @@ use Rattle.resource_catalog.specs.Catalog.{is_place_of, names_in, part, instance
 use Rattle.resource_catalog.specs.CatalogLaws.{at_part}
 use Rattle.resource_catalog.specs.PlainNames.{EachIsBuilt, IsOfBuilt, DecidesAsModel}
 use Rattle.resource_catalog.proofs.Counted.{names_counted}
-use Rattle.resource_catalog.proofs.Kept.{told_none}
 
 -- the name stands with its instance and kind, which is built, and its cells show its plain resource
 record ShowsName (cells : Cells) (name : List ℕ) (n : Named_resource) : Type 0 where
@@ -101,31 +99,6 @@ look_same cells s name n op session i t looking =
 look_new : (s : State) (name : List ℕ) (i : ℕ) (op : Op) → is_looking op ≡ true → look_at [] None op ≡ shown_by (outcome_new s.names name i op)
 look_new s name i (Create kind) looking = absurd (cc)
 look_new s name i op looking = refl
-
--- ---- events: no kind that is built tells any
-
-tells_nothing : (kind : Kind) (m : ℕ) (c : Cells) (name : List ℕ) (effect : Effect) (i : ℕ) → (decision_of kind).tells m c name effect i ≡ []
-tells_nothing kinds.Value m c name effect i = refl
-tells_nothing kinds.Counter m c name effect i = refl
-tells_nothing _ m c name effect i = refl
-
-pub catalog_tells_nothing : (cells : Cells) (effect : Effect) (i : ℕ) → catalog_decision.tells cells effect i ≡ []
-catalog_tells_nothing cells effect i = on (effect_instance effect)
-  where
-    known : (m : ℕ) (name : List ℕ) (k : Option Kind) → tells_kind cells m name k effect i ≡ []
-    known m name None = refl
-    known m name (Some kind) = tells_nothing kind m (part m cells) name effect i
-
-    found : (m : ℕ) (o : Option (List ℕ × Option Kind)) → tells_named cells m o effect i ≡ []
-    found m None = refl
-    found m (Some n) = known m n.0 n.1
-
-    on : (o : Option ℕ) → tells_on cells o effect i ≡ []
-    on None = refl
-    on (Some m) = found m (find nat_cmp m (instances cells))
-
-pub catalog_closes_silently : (cells : Cells) (session : ℕ) → catalog_decision.tells_close cells session ≡ []
-catalog_closes_silently cells session = told_none cells session (instances cells)
 
 -- ---- events, of any kinds
 

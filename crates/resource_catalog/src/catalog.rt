@@ -25,21 +25,12 @@ use crate::slots::{
 };
 use commit_lending::{Commit, Lender};
 use host_types::{Effect, Index, Key, Kind, NoMemory, Op, Reply};
-use machine::{Decision, Machine, Place, Refuse, Told};
+use machine::{Decision, Machine, Place, Refuse, Told, close_own};
 use std::alloc::Global;
 use std::marker::Model;
 
 /// How many names there are at most.
 const NAME_LIMIT: usize = 1024;
-
-// Closes a commit by its own index.
-fn close_own(commit: Commit, lender: &mut Lender)
-    requires { tokens lender.old commit ≡ 1 }
-    ensures { (held : ℕ → ℕ) → held commit ≡ 0 → Releases (λ j. held j + one_of commit j) held commit lender.old lender.new }
-{
-    let index = commit.index();
-    lender.close(commit, index);
-}
 
 fn is_unfit(slots: &[(Index, Slot)], instance: Index, effect: &Effect) -> bool
     requires { IsTrue (is_sorted nat_cmp slots.now) }

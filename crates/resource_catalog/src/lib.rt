@@ -1,10 +1,6 @@
 //! Named resources of every kind as one machine.
 #![tactic(auto)]
 
-ghost use Rattle.std.specs.Prelude.{◌≡◌, ℕ, []};
-ghost use Rattle.host_types.specs.Cells.{Cells};
-ghost use Rattle.host_types.specs.declared.entry.Effect.{Effect};
-ghost use Rattle.resource_catalog.specs.Catalog.{catalog_decision};
 ghost use Rattle.resource_catalog.specs.PlainNames.{DecidesAsModel, LogsAreAsModel};
 
 mod catalog;
@@ -30,9 +26,3 @@ pub fn logs_of_catalogs_are_plain()
 {
     catalog_is_plain();
 }
-
-/// `Catalog` tells nobody anything, whatever it holds. That is so while no kind that is built tells anybody anything.
-pub fn catalog_tells_nothing()
-    ensures tells { (cells : Cells) (effect : Effect) (index : ℕ) → catalog_decision.tells cells effect index ≡ [] }
-    ensures tells_close { (cells : Cells) (session : ℕ) → catalog_decision.tells_close cells session ≡ [] }
-{}

@@ -180,23 +180,13 @@ pub(crate) fn tells_in(
     Ok(Told::new(alloc))
 }
 
-// Appends the same events once more.
-fn append(told: &mut Told, more: &Told) -> Result<(), NoMemory>
-    ensures { OnOk result (told.new ≡ told.old ++ more.now) }
-{
-    for (session, event) in more.as_slice() {
-        told.push((*session, event.copy()?))?;
-    }
-    Ok(())
-}
-
 // Appends the events that the end of a session makes on one instance.
 fn tell_close(told: &mut Told, slot: &Slot, alloc: Global, owner: Index) -> Result<(), NoMemory>
     ensures { OnOk result (told.new ≡ told.old ++ closes_by slot.now.resource slot.now.name owner) }
 {
     if let Some(name) = &slot.name {
         let more = slot.resource.tells_close(alloc, name, owner)?;
-        append(told, &more)?;
+        told.append(more)?;
     }
     Ok(())
 }

@@ -6,8 +6,8 @@ use Rattle.disk_model.specs.Calls.{Looks}
 use Rattle.disk_model.proofs.Moments.{started, goes_on}
 use Rattle.disk_model.proofs.Places.{stays_at, stays_not, elapses_not}
 
-pub looks_not : (v : View) → Looks v v
-looks_not v = record { stays = stays_not v; time = elapses_not v }
+pub looks_not : (v : View) → IsSound v → Looks v v
+looks_not v sound = record { stays = stays_not v; time = elapses_not v sound }
 
 pub looks_then : (a b c : View) → IsSound a → Looks a b → Looks b c → Looks a c
 looks_then a b c sound first then = record {
@@ -23,6 +23,7 @@ looks_then a b c sound first then = record {
         (λ now. inr now)
         (then.time.nothing_else t x (omega (arith, le, first.time.later)) left);
     keeps = λ t x le left. then.time.keeps t x (omega (arith, le, first.time.later)) (first.time.keeps t x le left);
+    counts = λ t x le may. then.time.counts t x (omega (arith, le, first.time.later)) may;
   };
 }
 

@@ -1,5 +1,5 @@
 -- The parts of a log with one entry more.
-use Rattle.std.proofs.Common.{◌≡◌, inl, inr, ⊎_elim, ℕ, ◌+◌, ◌-◌, ◌<◌, ◌≤◌, List, [], ◌∷◌, ◌++◌, Option, Some, None, refl, sym, ap, subst, ◌∙◌, arith}
+use Rattle.std.proofs.Common.{◌≡◌, ◌≢◌, inl, inr, ⊎_elim, ℕ, ◌+◌, ◌-◌, ◌<◌, ◌≤◌, List, [], ◌∷◌, ◌++◌, Option, Some, None, refl, sym, ap, subst, ◌∙◌, arith}
 use Rattle.std.proofs.lemmas.List.{append-nil}
 use Rattle.host_types.specs.declared.entry.Entry.{Entry}
 use Rattle.disk_model.specs.declared.file_id.FileId.{FileId}
@@ -13,6 +13,7 @@ use Rattle.segment_files.specs.Folder.{Folder, folder, IsChoice, AreOf, Stands}
 use Rattle.segment_set.specs.declared.parts.Tail.{Tail}
 use Rattle.segment_set.specs.Growth.{new_tail, HasOrGains, HasNoneOr}
 use Rattle.segment_set.specs.Fits.{Fits, IsTailAt, KeepsNames, StandsOrGains, bare, frame_size, log_of, part_list, parts_in, with_entry}
+use Rattle.segment_set.proofs.Images.{kept_at}
 use Rattle.segment_set.proofs.Loading.{bytes_of_whole}
 use Rattle.segment_set.proofs.Numbering.{IsPlain, none_follow, plain_part}
 use Rattle.segment_set.proofs.AreLogs.{are_none, are_one, bare-append, plain_grown}
@@ -73,7 +74,13 @@ made_and_pushed v m w name id size entry base made pushed =
 -- WHAT THE DISK FITS
 
 pub keeps_names : (v w : View) (name : List ℕ) (id : FileId) → KeepsOthers v w (place name id) → KeepsNames v w name
-keeps_names v w name id keeps q ne = keeps.reading q (λ is. ne (ap (λ (p : Place). p.name) is))
+keeps_names v w name id keeps = record {
+  reading = λ q ne. keeps.reading q (apart q ne);
+  left = λ q o ne held. kept_at v w (place name id) keeps q o (apart q ne) held;
+}
+  where
+    apart : (q : Place) → q.name ≢ name → q ≢ place name id
+    apart q ne is = ne (ap (λ (p : Place). p.name) is)
 
 pub list_at : (v : View) (name : List ℕ) (tail : Tail) (p : Part) → folder name v.reading tail.id ≡ Whole p → parts_in v.reading name (Some tail) ≡ p ∷ []
 list_at v name tail p whole = ap part_list whole

@@ -4,7 +4,7 @@ use Rattle.host_types.specs.declared.entry.Entry.{Entry}
 use Rattle.entry_codec.specs.Spelled.{IsInRange, EntryFits}
 use Rattle.disk_model.specs.declared.file_id.FileId.{FileId}
 use Rattle.disk_model.specs.Image.{Place, Image, place}
-use Rattle.disk_model.specs.View.{View, MayLeave, IsListed}
+use Rattle.disk_model.specs.View.{View, MayHold, MayLeave, IsListed}
 use Rattle.segment_files.specs.Files.{IsAtGate}
 use Rattle.segment_files.specs.Parse.{Numbered, Part, Found, Closed, Whole, Damaged, is_built}
 use Rattle.segment_files.specs.Folder.{folder, entries_of, Stands, StandsForPrefix, EachHas}
@@ -65,9 +65,10 @@ last_of (Some tail) = tail.last
 abbrev pub StandsOrGains : List ℕ → List Entry → Entry → Image → Type 0
 StandsOrGains name log entry c = Stands (folder name c) log ⊎ Stands (folder name c) (log ++ entry ∷ [])
 
--- files of other names read as before
-abbrev pub KeepsNames : View → View → List ℕ → Type 0
-KeepsNames old new name = (q : Place) → q.name ≢ name → new.reading q ≡ old.reading q
+-- files of other names read as before, and a crash leaves nothing of them that it couldn't have left before
+pub record KeepsNames (old new : View) (name : List ℕ) : Type 0 where
+  pub reading : (q : Place) → q.name ≢ name → new.reading q ≡ old.reading q
+  pub left : (q : Place) (o : Option (List ℕ)) → q.name ≢ name → MayHold new q o → MayHold old q o
 
 -- IN ORDER: a folder stands for a log, whatever a crash leaves
 

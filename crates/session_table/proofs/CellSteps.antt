@@ -10,7 +10,7 @@ use Rattle.std.specs.Ordering.{nat_cmp, ordering_then, is_eq, eq_by_cmp}
 use Rattle.host_types.specs.Cells.{Place, Name_at, Cell_at, Register_at, Alive_at, Held, Cells, place_cmp, at, stands, marked, is_met, is_owned_by}
 use Rattle.host_types.specs.declared.entry.Body.TheVariants.{Register, Alive, Close}
 use Rattle.log_model.specs.cleaning.Cells.{after, is_session_place, uncovered}
-use Rattle.log_model.proofs.Places.{place_total, exact_places}
+use Rattle.host_types.proofs.Places.{place_total, exact_places}
 use Rattle.log_model.proofs.Lookups.{tied_true}
 use Rattle.event_batches.specs.Rising.{Rises, AreBelow}
 use Rattle.slab.specs.Slab.{get}

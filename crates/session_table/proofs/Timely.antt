@@ -1,10 +1,13 @@
 -- The deadlines of the open sessions, and for how many more sessions there is room.
-use Rattle.std.proofs.Common.{◌≡◌, ℕ, ◌+◌, ◌-◌, ◌<◌, ◌≤◌, ◌&&◌, nat_lt, nat_le, min, Bool, true, false, cond, List, length, slice_index_or, slice_set, Option, Some, None, is_some, refl, sym, ap, subst, ◌∙◌, inl, inr, arith, length-set, get_or-set_same, get_or-set_other}
+use Rattle.std.proofs.Common.{◌≡◌, ℕ, ◌+◌, ◌-◌, ◌<◌, ◌≤◌, ◌&&◌, nat_lt, nat_le, min, Bool, true, false, cond, List, ◌++◌, length, slice_index_or, slice_set, Option, Some, None, is_some, refl, sym, ap, subst, ◌∙◌, inl, inr, arith, length-set, get_or-set_same, get_or-set_other}
 use Rattle.std.proofs.lemmas.Bool.{cases_eq}
 use Rattle.std.proofs.lemmas.Bool.Decides.{nat_tests}
 use Rattle.std.proofs.lemmas.Option.{none-some, same_Some}
+use Rattle.host_types.specs.declared.entry.Event.{Event}
 use Rattle.log_model.specs.plain.Plain.{Session}
 use Rattle.log_model.specs.plain.Admission.{is_due}
+use Rattle.log_model.specs.plain.Step.{one_batch}
+use Rattle.log_model.specs.replay.Replay.{pushed}
 use Rattle.slab.specs.Slab.{get, with_value, Updates}
 use Rattle.slab.proofs.SlabLemmas.{Updates-with_value}
 use Rattle.session_table.specs.Kept.{Kept_session}
@@ -24,6 +27,10 @@ not_due time x early = go (nat_lt x.last_time time) (nat_lt x.timeout (time - x.
         absurd (omega (arith, later, past, early))
     go true false e f = refl
     go false b e f = refl
+
+-- a batch moves no deadline
+pub push_deadline : (i : ℕ) (es : List Event) (x : Session) → deadline (pushed i es x) ≡ deadline x
+push_deadline i es x = elim (nat_le i x.acked_event) as (λ b. deadline (cond b x (record x { batches = x.batches ++ one_batch i es })) ≡ deadline x) [ true ↦ refl | false ↦ refl ]
 
 -- ---- the deadlines stand at their keys
 

@@ -2,12 +2,9 @@
 use Rattle.std.specs.Prelude.{◌≡◌, ℕ, ◌≤◌, max, cond, not, ◌==◌, List, map, Option, Some, None, is_some, IsTrue}
 use Rattle.std.specs.List.{filter, find}
 use Rattle.std.specs.Option.{option_map, option_map_or}
-use Rattle.host_types.specs.declared.entry.Event.{Event}
 use Rattle.host_types.specs.declared.entry.Reply.{Reply}
 use Rattle.log_model.specs.plain.Plain.{Session, State, nothing_yet, session_of}
 use Rattle.log_model.specs.plain.Admission.{reply_kept}
-use Rattle.log_model.specs.plain.Step.{kept_alive}
-use Rattle.event_batches.specs.Kept.{pushed}
 use Rattle.session_table.specs.declared.view.SessionView.{SessionView}
 
 -- what a session has besides: the index of its alive commit, if it has one, and the event that was confirmed last
@@ -85,14 +82,6 @@ reply_in seq None = None
 reply_in seq (Some x) = option_map (λ r. r.reply) (reply_kept seq x)
 
 -- ---- changes
-
--- A keep-alive is the model's, but that the acknowledged event doesn't fall, which no log brings about.
-abbrev pub alive_at : ℕ → ℕ → ℕ → Session → Session
-alive_at time seq event x = record (kept_alive time seq event x) { acked_event = max x.acked_event event }
-
--- one batch more, unless it was acknowledged, which no log brings about
-abbrev pub with_batch : ℕ → List Event → Session → Session
-with_batch index events x = record x { batches = pushed x.acked_event index events x.batches }
 
 abbrev pub without_id : ℕ → List Session → List Session
 without_id id sessions = filter (λ x. not (x.id == id)) sessions

@@ -9,8 +9,8 @@ ghost use Rattle.event_batches.specs.Rising.{AreBelow};
 ghost use Rattle.session_table.specs.Kept.{session_indexes, batch_indexes};
 ghost use Rattle.session_table.specs.Deadlines.{deadline};
 ghost use Rattle.session_table.specs.Replies.{reply_indexes};
-ghost use Rattle.log_model.specs.replay.Replay.{noted};
-ghost use Rattle.session_table.specs.Table.{view_of, alive_at, with_batch};
+ghost use Rattle.log_model.specs.replay.Replay.{after_alive, noted, pushed};
+ghost use Rattle.session_table.specs.Table.{view_of};
 
 use crate::replies::Replies;
 use crate::view::SessionView;
@@ -117,7 +117,7 @@ impl OpenSession {
     // Its new deadline is answered.
     pub(crate) fn alive(&mut self, time: Time, seq: u64, event: Index) -> Time
         ensures deadline { result ≡ deadline self.new.session }
-        ensures session { self.new.session ≡ alive_at time seq event self.old.session }
+        ensures session { self.new.session ≡ after_alive time seq event self.old.session }
         ensures confirmed { self.new.confirmed ≡ max self.old.confirmed event }
         ensures reply_room { self.old.reply_room ≤ self.new.reply_room }
         ensures batch_room { self.old.batch_room ≤ self.new.batch_room }
@@ -174,7 +174,7 @@ impl OpenSession {
     pub(crate) fn push(&mut self, index: Index, events: Events)
         requires prepared { 1 ≤ self.old.batch_room }
         requires index { AreBelow index (batch_indexes self.old.session.batches) }
-        ensures session { self.new.session ≡ with_batch index events self.old.session }
+        ensures session { self.new.session ≡ pushed index events self.old.session }
         ensures confirmed { self.new.confirmed ≡ self.old.confirmed }
         ensures reply_room { self.new.reply_room ≡ self.old.reply_room }
     {

@@ -12,8 +12,8 @@ ghost use Rattle.log_model.specs.plain.Quiet.{kept_indexes, greatest_below};
 ghost use Rattle.log_model.specs.plain.Step.{changed, new_session, with_reply};
 ghost use Rattle.event_batches.specs.Kept.{as_batch};
 ghost use Rattle.event_batches.specs.Rising.{AreBelow};
-ghost use Rattle.log_model.specs.replay.Replay.{noted};
-ghost use Rattle.session_table.specs.Table.{Beside, as_state, session_at, IsOpen, ids, confirmed_of, reply_room, batch_room, KeepsRoom, IsSame, view_at, reply_in, alive_at, with_batch, without_id, beside_changed, beside_alive, beside_confirmed};
+ghost use Rattle.log_model.specs.replay.Replay.{after_alive, noted, pushed};
+ghost use Rattle.session_table.specs.Table.{Beside, as_state, session_at, IsOpen, ids, confirmed_of, reply_room, batch_room, KeepsRoom, IsSame, view_at, reply_in, without_id, beside_changed, beside_alive, beside_confirmed};
 ghost use Rattle.session_table.specs.Asked.{NewerReply, NewerBatch, batch_at, batch_is_kept, confirms};
 ghost use Rattle.session_table.specs.Places.{table_cells};
 
@@ -233,7 +233,7 @@ impl Sessions {
         requires held { AreOut (places_of (table_cells self.old)) lender.old }
         requires new { places_of (table_cells self.old) commit ≡ 0 }
         requires lent { tokens lender.old commit ≡ 1 }
-        ensures sessions { self.new.sessions ≡ changed id (alive_at time seq event) self.old.sessions }
+        ensures sessions { self.new.sessions ≡ changed id (after_alive time seq event) self.old.sessions }
         ensures beside { self.new.beside ≡ beside_changed id (beside_alive commit event) self.old.beside }
         ensures cells { table_cells self.new ≡ after (table_cells self.old) commit (record { time = time; body = body.Alive id seq event }) }
         ensures released { Releases (λ j. places_of (table_cells self.old) j + one_of commit j) (places_of (table_cells self.new)) commit lender.old lender.new }
@@ -327,12 +327,13 @@ impl Sessions {
     }
 
     /// Keeps one more batch of an open session, whose index is above those of the batches that it keeps. There is room for it. A batch
-    /// that isn't above the acknowledged event, which no log brings about, isn't kept. It takes no memory.
+    /// without events isn't kept, and neither is one that isn't above the acknowledged event, which no log brings about. It takes no
+    /// memory.
     pub fn push(&mut self, id: Index, index: Index, events: Events)
         requires open { IsOpen id self.old }
         requires prepared { 1 ≤ batch_room id self.old }
         requires newer { NewerBatch index (session_at id self.old) }
-        ensures sessions { self.new.sessions ≡ changed id (with_batch index events) self.old.sessions }
+        ensures sessions { self.new.sessions ≡ changed id (pushed index events) self.old.sessions }
         ensures beside { self.new.beside ≡ self.old.beside }
         ensures replies { (other : ℕ) → reply_room other self.old ≤ reply_room other self.new }
         ensures batches { (other : ℕ) → other ≢ id → batch_room other self.old ≤ batch_room other self.new }

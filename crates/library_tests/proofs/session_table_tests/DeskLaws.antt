@@ -1,5 +1,5 @@
 -- The steps of the small caller.
-use Rattle.std.proofs.Common.{◌≡◌, ◌≢◌, ℕ, ◌+◌, ◌<◌, ◌≤◌, ◌==◌, Bool, true, false, not, cond, nat_lt, List, [], ◌∷◌, ◌++◌, map, Option, Some, None, refl, sym, ap, subst, ◌∙◌, arith}
+use Rattle.std.proofs.Common.{◌≡◌, ◌≢◌, ℕ, ◌+◌, ◌<◌, ◌≤◌, ◌==◌, Bool, true, false, not, cond, nat_le, nat_lt, List, [], ◌∷◌, ◌++◌, map, Option, Some, None, refl, sym, ap, subst, ◌∙◌, arith, append-nil}
 use Rattle.std.proofs.lemmas.Bool.{false_from_ne_true}
 use Rattle.std.proofs.lemmas.Option.{none-some, same_Some}
 use Rattle.std.specs.List.{filter, find, flat_map}
@@ -12,13 +12,15 @@ use Rattle.machine.specs.Release.{AreOut, Releases}
 use Rattle.machine.proofs.ReleaseLaws.{are_out_lent, are_out_with, are_out_still, are_out_same, holds_nothing}
 use Rattle.log_model.specs.plain.Plain.{Kept_reply, Kept_batch, Session}
 use Rattle.log_model.specs.plain.Quiet.{kept_indexes}
-use Rattle.log_model.specs.plain.Step.{changed, new_session, with_reply}
+use Rattle.log_model.specs.plain.Step.{changed, new_session, one_batch, with_reply}
+use Rattle.log_model.specs.replay.Replay.{after_alive, pushed}
+use Rattle.log_model.proofs.replay.Rising.{alive_id, push_id}
 use Rattle.event_batches.specs.Rising.{AreBelow}
 use Rattle.event_batches.proofs.RisingLists.{below_append}
 use Rattle.session_table.specs.Kept.{session_indexes, batch_indexes}
 use Rattle.session_table.specs.Replies.{reply_indexes}
 use Rattle.session_table.specs.Asked.{NewerReply, NewerBatch}
-use Rattle.session_table.specs.Table.{Table, as_state, session_at, ids, view_of, view_at, confirmed_of, alive_at, with_batch, without_id}
+use Rattle.session_table.specs.Table.{Table, as_state, session_at, ids, view_of, view_at, confirmed_of, without_id}
 use Rattle.session_table.specs.Places.{table_cells}
 use Rattle.library_tests.specs.Desks.{IsSound}
 use Rattle.session_table.specs.declared.view.SessionView.{SessionView}
@@ -80,21 +82,36 @@ reply_below top seq index reply x l b =
     let r = below_parts top (reply_indexes x.replies) (batch_indexes x.batches) b in
     below_append top (reply_indexes (with_reply seq index reply x).replies) (batch_indexes x.batches) (below_mapped (λ (r : Kept_reply). r.index) top x.replies (record { seq = seq; index = index; reply = reply }) r.0 l) r.1
 
-batch_below : (top index : ℕ) (events : List Event) (x : Session) → index < top → AreBelow top (session_indexes x) → AreBelow top (session_indexes (with_batch index events x))
-batch_below top index events x l b =
-    let r = below_parts top (reply_indexes x.replies) (batch_indexes x.batches) b in
-    below_append top (reply_indexes x.replies) (batch_indexes (with_batch index events x).batches) r.0 (go (nat_lt x.acked_event index) r.1)
-  where
-    go : (q : Bool) → AreBelow top (batch_indexes x.batches) → AreBelow top (batch_indexes (cond q (x.batches ++ record { index = index; events = events } ∷ []) x.batches))
-    go true b = below_mapped (λ (k : Kept_batch). k.index) top x.batches (record { index = index; events = events }) b l
-    go false b = b
+one_below : (top index : ℕ) (events : List Event) (bs : List Kept_batch) → index < top → AreBelow top (map (λ (k : Kept_batch). k.index) bs) → AreBelow top (map (λ (k : Kept_batch). k.index) (bs ++ one_batch index events))
+one_below top index [] bs l b = subst (λ (ks : List Kept_batch). AreBelow top (map (λ (k : Kept_batch). k.index) ks)) (sym (append-nil bs)) b
+one_below top index (e ∷ es) bs l b = below_mapped (λ (k : Kept_batch). k.index) top bs (record { index = index; events = e ∷ es }) b l
 
-alive_below : (top time seq event : ℕ) (x : Session) → AreBelow top (session_indexes x) → AreBelow top (session_indexes (alive_at time seq event x))
-alive_below top time seq event x b =
-    let r = below_parts top (reply_indexes x.replies) (batch_indexes x.batches) b in
-    below_append top (reply_indexes (alive_at time seq event x).replies) (batch_indexes (alive_at time seq event x).batches)
-    (below_filter (λ (r : Kept_reply). r.index) (λ r. nat_lt seq r.seq) top x.replies r.0)
-    (below_filter (λ (k : Kept_batch). k.index) (λ k. nat_lt event k.index) top x.batches r.1)
+batch_below : (top index : ℕ) (events : List Event) (x : Session) → index < top → AreBelow top (session_indexes x) → AreBelow top (session_indexes (pushed index events x))
+batch_below top index events x l b = go (nat_le index x.acked_event)
+  where
+    go : (q : Bool) → AreBelow top (session_indexes (cond q x (record x { batches = x.batches ++ one_batch index events })))
+    go true = b
+    go false =
+        let r = below_parts top (reply_indexes x.replies) (batch_indexes x.batches) b in
+        below_append top (reply_indexes x.replies) (batch_indexes (x.batches ++ one_batch index events)) r.0 (one_below top index events x.batches l r.1)
+
+alive_below : (top time seq event : ℕ) (x : Session) → AreBelow top (session_indexes x) → AreBelow top (session_indexes (after_alive time seq event x))
+alive_below top time seq event x b = go (nat_lt event x.acked_event)
+  where
+    y : Session
+    y = record x { last_time = time; acked_seq = seq; replies = filter (λ (r : Kept_reply). nat_lt seq r.seq) x.replies }
+
+    kept : AreBelow top (reply_indexes x.replies) × AreBelow top (batch_indexes x.batches)
+    kept = below_parts top (reply_indexes x.replies) (batch_indexes x.batches) b
+
+    replies : AreBelow top (reply_indexes (filter (λ (r : Kept_reply). nat_lt seq r.seq) x.replies))
+    replies = below_filter (λ (r : Kept_reply). r.index) (λ r. nat_lt seq r.seq) top x.replies kept.0
+
+    go : (q : Bool) → AreBelow top (session_indexes (cond q y (record y { acked_event = event; batches = filter (λ (k : Kept_batch). nat_lt event k.index) y.batches })))
+    go true = below_append top (reply_indexes (filter (λ (r : Kept_reply). nat_lt seq r.seq) x.replies)) (batch_indexes x.batches) replies kept.1
+    go false =
+        below_append top (reply_indexes (filter (λ (r : Kept_reply). nat_lt seq r.seq) x.replies)) (batch_indexes (filter (λ (k : Kept_batch). nat_lt event k.index) x.batches))
+        replies (below_filter (λ (k : Kept_batch). k.index) (λ k. nat_lt event k.index) top x.batches kept.1)
 
 -- ---- what is out and what is free
 
@@ -154,8 +171,8 @@ grows_sound t t' lent next id f same below sessions beside s = record {
 pub reply_sound : (t t' : Table) (lent : Lent) (next id seq : ℕ) (reply : Reply) → t'.sessions ≡ changed id (with_reply seq next reply) t.sessions → t'.beside ≡ t.beside → IsSound t lent next → IsSound t' lent (next + 1)
 reply_sound t t' lent next id seq reply = grows_sound t t' lent next id (with_reply seq next reply) (λ x. refl) (λ x b. reply_below (next + 1) seq next reply x (omega arith) b)
 
-pub batch_sound : (t t' : Table) (lent : Lent) (next id : ℕ) (events : List Event) → t'.sessions ≡ changed id (with_batch next events) t.sessions → t'.beside ≡ t.beside → IsSound t lent next → IsSound t' lent (next + 1)
-batch_sound t t' lent next id events = grows_sound t t' lent next id (with_batch next events) (λ x. refl) (λ x b. batch_below (next + 1) next events x (omega arith) b)
+pub batch_sound : (t t' : Table) (lent : Lent) (next id : ℕ) (events : List Event) → t'.sessions ≡ changed id (pushed next events) t.sessions → t'.beside ≡ t.beside → IsSound t lent next → IsSound t' lent (next + 1)
+batch_sound t t' lent next id events = grows_sound t t' lent next id (pushed next events) (push_id next events) (λ x b. batch_below (next + 1) next events x (omega arith) b)
 
 pub register_sound : (t t' : Table) (before lent : Lent) (next time timeout : ℕ) → ((j : ℕ) → tokens lent j ≡ tokens before j + one_of next j) → t'.sessions ≡ t.sessions ++ new_session next time timeout ∷ []
     → ((j : ℕ) → places_of (table_cells t') j ≡ places_of (table_cells t) j + one_of next j) → IsSound t before next → IsSound t' lent (next + 1)
@@ -170,7 +187,7 @@ register_sound t t' before lent next time timeout more sessions places s =
       kept = subst (λ ss. AreBelow (next + 1) (all_kept ss)) (sym sessions) (below_more (next + 1) t.sessions (new_session next time timeout) (below_weaker next (next + 1) (all_kept t.sessions) (omega arith) s.kept) tt);
     }
 
-pub alive_sound : (t t' : Table) (before lent now : Lent) (next id time seq event : ℕ) → ((j : ℕ) → tokens lent j ≡ tokens before j + one_of next j) → t'.sessions ≡ changed id (alive_at time seq event) t.sessions
+pub alive_sound : (t t' : Table) (before lent now : Lent) (next id time seq event : ℕ) → ((j : ℕ) → tokens lent j ≡ tokens before j + one_of next j) → t'.sessions ≡ changed id (after_alive time seq event) t.sessions
     → Releases (λ j. places_of (table_cells t) j + one_of next j) (places_of (table_cells t')) next lent now → IsSound t before next → IsSound t' now (next + 1)
 alive_sound t t' before lent now next id time seq event more sessions step s =
     let l = lends t before lent next s more in
@@ -180,8 +197,8 @@ alive_sound t t' before lent now next id time seq event more sessions step s =
       some = omega arith;
       out = are_out_still was (places_of (table_cells t')) next lent now both step;
       free = λ j a. free_after was (places_of (table_cells t')) next lent now j both step (l.free j a);
-      opened = below_weaker next (next + 1) (ids t') (omega arith) (subst (AreBelow next) (sym (same_ids id (alive_at time seq event) (λ x. refl) t.sessions) ∙ ap (map (λ (x : Session). x.id)) (sym sessions)) s.opened);
-      kept = subst (λ ss. AreBelow (next + 1) (all_kept ss)) (sym sessions) (below_changed (next + 1) id (alive_at time seq event) (λ x b. alive_below (next + 1) time seq event x b) t.sessions (below_weaker next (next + 1) (all_kept t.sessions) (omega arith) s.kept));
+      opened = below_weaker next (next + 1) (ids t') (omega arith) (subst (AreBelow next) (sym (same_ids id (after_alive time seq event) (alive_id time seq event) t.sessions) ∙ ap (map (λ (x : Session). x.id)) (sym sessions)) s.opened);
+      kept = subst (λ ss. AreBelow (next + 1) (all_kept ss)) (sym sessions) (below_changed (next + 1) id (after_alive time seq event) (λ x b. alive_below (next + 1) time seq event x b) t.sessions (below_weaker next (next + 1) (all_kept t.sessions) (omega arith) s.kept));
     }
 
 pub close_sound : (t t' : Table) (before now : Lent) (next id by : ℕ) → t'.sessions ≡ without_id id t.sessions → Releases (places_of (table_cells t)) (places_of (table_cells t')) by before now → IsSound t before next → IsSound t' now (next + 1)

@@ -7,7 +7,7 @@ use Rattle.host_types.specs.declared.entry.Body.{Body}
 use Rattle.host_types.specs.declared.entry.Entry.{Entry}
 use Rattle.host_types.specs.Cells.{Place, Held, place_cmp, Cells, at, put_all}
 use Rattle.log_model.specs.cleaning.Cells.{puts, covers, is_covered, uncovered, fits, after}
-use Rattle.log_model.proofs.Places.{place_total, exact_places}
+use Rattle.host_types.proofs.Places.{place_total, exact_places}
 
 -- the first that is there
 abbrev pub or_else : Option Held → Option Held → Option Held

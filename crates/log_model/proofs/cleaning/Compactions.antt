@@ -16,7 +16,7 @@ use Rattle.log_model.specs.cleaning.Cleaning.{numbered, entry_at, Cleaned}
 use Rattle.log_model.specs.cleaning.Kept.{Span, is_within, stays, remains, may_go, after_minor, after_major}
 use Rattle.log_model.proofs.Lookups.{T_from, from_T, tied_same, any_from_found, found_from_any}
 use Rattle.log_model.proofs.cleaning.Joined.{Below}
-use Rattle.log_model.proofs.Places.{place_total, exact_places}
+use Rattle.host_types.proofs.Places.{place_total, exact_places}
 use Rattle.log_model.proofs.cleaning.Changes.{Change, Written, Taken, Left, change}
 use Rattle.log_model.proofs.cleaning.Entries.{puts-index}
 use Rattle.log_model.proofs.cleaning.Indexed.{Each, weaker, found_each, each_up_to, sorted_parts, numbered_rise, numbered_ranges, below_to}

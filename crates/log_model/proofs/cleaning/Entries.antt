@@ -13,7 +13,7 @@ use Rattle.host_types.specs.Cells.{Place, Name_at, Cell_at, Register_at, Alive_a
 use Rattle.log_model.specs.cleaning.Cells.{puts, covers, covers_any, is_tombstone, fits_with_owner, fits}
 use Rattle.host_types.specs.Cells.{deletes_standing}
 use Rattle.log_model.specs.cleaning.Cleaning.{closes_standing}
-use Rattle.log_model.proofs.Places.{place_total, exact_places, exact_texts}
+use Rattle.host_types.proofs.Places.{place_total, exact_places, exact_texts}
 use Rattle.log_model.proofs.Lookups.{tied_same, any_from_found}
 
 pub single : (q : Place) (g : Held) (p : Place) (h : Held) → at ((q, g) ∷ []) p ≡ Some h → (p ≡ q) × (g ≡ h)

@@ -15,7 +15,7 @@ use Rattle.host_types.specs.declared.entry.Entry.{Entry}
 use Rattle.host_types.specs.Cells.{Place, Name_at, Cell_at, Register_at, Alive_at, Held, place_cmp, Cells, at, marked, filled, effect_puts, is_owned_by, stands, is_name_for}
 use Rattle.log_model.specs.cleaning.Cells.{puts, is_session_place, covers, covers_any, owner_stands, fits_with_owner, fits, after, Numbered, cells_from}
 use Rattle.log_model.specs.cleaning.Cleaning.{closes_standing}
-use Rattle.log_model.proofs.Places.{place_total, exact_places}
+use Rattle.host_types.proofs.Places.{place_total, exact_places}
 use Rattle.log_model.proofs.Lookups.{found_from_any, any_from_found}
 use Rattle.log_model.proofs.cleaning.Changes.{Change, Written, Taken, Left, change, sorted-after}
 use Rattle.log_model.proofs.cleaning.Entries.{single, puts-index, covers_puts, register_put, name_put, close_covers, delete_covers, covers_of_any}

@@ -8,7 +8,7 @@ use Rattle.host_types.specs.declared.entry.Entry.{Entry}
 use Rattle.host_types.specs.Cells.{Place, Held, place_cmp, Cells, at}
 use Rattle.log_model.specs.cleaning.Cells.{puts, covers_any, is_tombstone, fits, after, Numbered, cells_from, cells, up_to, is_held, is_released}
 use Rattle.log_model.specs.cleaning.Cleaning.{numbered, entry_at, Cleaned, closes_standing, is_lawful_from, HasOneOwner}
-use Rattle.log_model.proofs.Places.{place_total, exact_places}
+use Rattle.host_types.proofs.Places.{place_total, exact_places}
 use Rattle.log_model.proofs.Lookups.{T_from, any_from_found, found_from_any}
 use Rattle.log_model.proofs.cleaning.Changes.{sorted-after}
 use Rattle.log_model.proofs.cleaning.Entries.{not_tombstone}

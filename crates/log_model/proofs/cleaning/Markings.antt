@@ -9,7 +9,7 @@ use Rattle.host_types.specs.Cells.{Place, Held, place_cmp, Cells, at}
 use Rattle.log_model.specs.cleaning.Cells.{Numbered, after, cells_from, cells, up_to, is_held, is_released}
 use Rattle.log_model.specs.cleaning.Cleaning.{numbered, entry_at, Cleaned, is_lawful_from, HasOneOwner}
 use Rattle.log_model.specs.cleaning.Released.{mark_from, mark_of, released_at, releases}
-use Rattle.log_model.proofs.Places.{place_total, exact_places}
+use Rattle.host_types.proofs.Places.{place_total, exact_places}
 use Rattle.log_model.proofs.Lookups.{T_from, tied_same, found_from_any, any_from_found}
 use Rattle.log_model.proofs.cleaning.Changes.{Change, Written, Taken, Left, change, sorted-after}
 use Rattle.log_model.proofs.cleaning.Entries.{puts-index}

@@ -6,7 +6,7 @@ use Rattle.std.specs.List.{list_any}
 use Rattle.host_types.specs.Cells.{Place, Name_at, Cell_at, Register_at, Alive_at, Held, Cells, at, is_in_instance}
 use Rattle.log_model.specs.hosted.Hosted.{Hosted, machine_cells}
 use Rattle.log_model.specs.hosted.Sound.{IsSound, IsFree}
-use Rattle.log_model.proofs.Places.{place_total, exact_places}
+use Rattle.host_types.proofs.Places.{place_total, exact_places}
 use Rattle.log_model.proofs.Lookups.{T_from, found_from_any}
 use Rattle.log_model.proofs.hosted.Parts.{at_machine, sorted_machine}
 

@@ -14,7 +14,7 @@ use Rattle.log_model.specs.hosted.Hosted.{is_hosted_log, hosted_stored, Hosted, 
 use Rattle.log_model.specs.hosted.Parts.{alive_index, alive_after}
 use Rattle.log_model.specs.hosted.Sound.{IsSound}
 use Rattle.log_model.specs.hosted.Machines.{Grown, Whole}
-use Rattle.log_model.proofs.Places.{place_total, exact_places}
+use Rattle.host_types.proofs.Places.{place_total, exact_places}
 use Rattle.log_model.proofs.Lookups.{tied_true}
 use Rattle.log_model.proofs.cleaning.Changes.{Change, Written, Taken, Left, change}
 use Rattle.log_model.proofs.cleaning.Entries.{single}

@@ -138,7 +138,7 @@ unsigned n l = omega arith
 -- the owner of what is put stands
 owner_there : (c : Cells) (session i : ℕ) (f : Effect) → OwnsAll session (effect_puts i f) → stands c (Register_at session) ≡ true → effect_fits c f ≡ true → fits_with_owner c f ≡ true
 owner_there c session i (Put instance cell content owner) owns there fit =
-    let written : at (effect_puts i (Put instance cell content owner)) (Cell_at instance cell) ≡ Some (filled i content owner) = ap (λ b. cond b (Some (filled i content owner)) None) (Rattle.log_model.proofs.Lookups.tied_true Rattle.log_model.proofs.Places.place_total Rattle.log_model.proofs.Places.exact_places (Cell_at instance cell)) in
+    let written : at (effect_puts i (Put instance cell content owner)) (Cell_at instance cell) ≡ Some (filled i content owner) = ap (λ b. cond b (Some (filled i content owner)) None) (Rattle.log_model.proofs.Lookups.tied_true Rattle.host_types.proofs.Places.place_total Rattle.host_types.proofs.Places.exact_places (Cell_at instance cell)) in
     and_from (effect_fits c (Put instance cell content owner)) (owner_stands c owner) fit
     (⊎_elim (λ (n : owner ≡ None). ap (owner_stands c) n) (λ (n : owner ≡ Some session). ap (owner_stands c) n ∙ there) (owns (Cell_at instance cell) (filled i content owner) written))
 owner_there c session i (Create name kind) owns there fit = fit

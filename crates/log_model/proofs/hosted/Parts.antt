@@ -16,7 +16,7 @@ use Rattle.host_types.specs.Cells.{Place, Name_at, Cell_at, Register_at, Alive_a
 use Rattle.log_model.specs.cleaning.Cells.{puts, covers, owner_stands, fits_with_owner, fits, is_covered, uncovered, after}
 use Rattle.log_model.specs.hosted.Hosted.{is_machine_place, machine_cells}
 use Rattle.log_model.specs.hosted.Parts.{put_owner_stands, machine_after, session_cells}
-use Rattle.log_model.proofs.Places.{place_total, exact_places}
+use Rattle.host_types.proofs.Places.{place_total, exact_places}
 use Rattle.log_model.proofs.Lookups.{T_from}
 use Rattle.log_model.proofs.cleaning.Changes.{or_else, at-put_all, at-uncovered, sorted-put_all, sorted-after}
 

@@ -11,7 +11,7 @@ use Rattle.log_model.specs.plain.Plain.{Session}
 use Rattle.log_model.specs.hosted.Hosted.{Hosted, is_machine_place}
 use Rattle.log_model.specs.hosted.Parts.{alive_index, session_cells, commits_of, alive_places, commit_places}
 use Rattle.log_model.specs.hosted.Sound.{IsSound, Above, Rises}
-use Rattle.log_model.proofs.Places.{place_total, exact_places}
+use Rattle.host_types.proofs.Places.{place_total, exact_places}
 use Rattle.log_model.proofs.Lookups.{T_from, tied_true}
 use Rattle.log_model.proofs.plain.Tracks.{found_session, other_place}
 use Rattle.log_model.proofs.plain.OneSession.{open_is}

@@ -20,7 +20,7 @@ use Rattle.log_model.specs.plain.Step.{one_batch, events_of, changed, with_reply
 use Rattle.log_model.specs.hosted.Hosted.{Hosted, is_machine_place}
 use Rattle.log_model.specs.replay.Replay.{Telling, noted, replay_alive, replay_reply, replay_batches, replay_sessions, replay_entry}
 use Rattle.log_model.specs.hosted.Sound.{IsPast, IsSessionSound, IsSound}
-use Rattle.log_model.proofs.Places.{place_total, exact_places}
+use Rattle.host_types.proofs.Places.{place_total, exact_places}
 use Rattle.log_model.proofs.Lookups.{T_from, from_T, tied_true, found_from_any}
 use Rattle.log_model.proofs.plain.OneSession.{open_is as session_is}
 use Rattle.log_model.proofs.cleaning.Changes.{Change, Written, Taken, Left, change, sorted-after}

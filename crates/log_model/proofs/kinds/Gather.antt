@@ -18,7 +18,7 @@ use Rattle.log_model.specs.plain.Plain.{Member, keyed, has_item, pair_cmp}
 use Rattle.log_model.specs.plain.Rows.{is_waiter}
 use Rattle.log_model.specs.kinds.Shows.{content_at, index_at, member_at, member_cell, by_index, by_holding, Listens}
 use Rattle.log_model.specs.kinds.Reading.{picked, gather, pick_in, keys, values, text_in, text_of, keyed_by, map_cell, pair_cell, word_cell, item_cell, waiter_cell, member_in, member_of, listener_cell, listeners_in}
-use Rattle.log_model.proofs.Places.{place_total, exact_places, exact_texts, tie}
+use Rattle.host_types.proofs.Places.{place_total, exact_places, exact_texts, tie}
 use Rattle.log_model.proofs.Lookups.{T_from, tied_true, tied_same, below_missing, found_from_any, any_from_found}
 
 pub clash : (b : Bool) → b ≡ true → b ≡ false → ⊥
@@ -179,7 +179,7 @@ same_unit (Some x) (Some y) e = refl
 abbrev pub stood : {K : Type 0} → K → Held → Option (Unit {0})
 stood k h = Some tt
 
-read_stood : {K : Type 0} (k : K) (o : Option Held) → is_some (read_at stood k o) ≡ is_some o
+pub read_stood : {K : Type 0} (k : K) (o : Option Held) → is_some (read_at stood k o) ≡ is_some o
 read_stood k None = refl
 read_stood k (Some h) = refl
 
@@ -242,7 +242,7 @@ words_are m c words s sorted shown = keys_are nat_list_cmp_total exact_texts m w
     only (Waiter a b) h k x e = absurd (none_some e)
     only (Of session) h k x e = absurd (none_some e)
 
-pair_total : IsTotalOrder pair_cmp
+pub pair_total : IsTotalOrder pair_cmp
 pair_total = then_total (on_total (λ (p : List ℕ × List ℕ). p.0) nat_list_cmp_total) (on_total (λ (p : List ℕ × List ℕ). p.1) nat_list_cmp_total)
 
 pub exact_pairs : IsAntisymmetric pair_cmp

@@ -71,7 +71,7 @@ module _ {K : Type 0} (R : K → K → Ordering) (m : ℕ) (place : K → Cell) 
   here : (m == m) ≡ true
   here = eq-eqb m m refl
 
-  placed : (k q : K) → place_cmp (Cell_at m (place k)) (Cell_at m (place q)) ≡ R k q
+  pub placed : (k q : K) → place_cmp (Cell_at m (place k)) (Cell_at m (place q)) ≡ R k q
   placed k q = ap (λ o. ordering_then o (cell_cmp (place k) (place q))) (tied_itself nat_cmp_total m) ∙ order k q
 
   pub put_keyed : (k : K) (h : Held) (es : List (K × Held)) → put place_cmp (Cell_at m (place k)) h (cells es) ≡ cells (put R k h es)

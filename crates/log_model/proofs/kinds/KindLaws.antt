@@ -117,7 +117,7 @@ module _ (m : ℕ) (c : Cells) (s : T (is_sorted place_cmp c)) (right : AreCells
       go (Some held) e = number held.content (right (Cell_at m One) held e).1.content
 
   pairs_in_range : AllByRecursion (λ (p : List ℕ × List ℕ). IsWord p.1) (gather text_cmp (pick_in m map_cell) c)
-  pairs_in_range = of_cells text_cmp Rattle.log_model.proofs.Places.exact_texts (λ (p : List ℕ × List ℕ). IsWord p.1) m map_cell c s right is
+  pairs_in_range = of_cells text_cmp Rattle.host_types.proofs.Places.exact_texts (λ (p : List ℕ × List ℕ). IsWord p.1) m map_cell c s right is
     where
       is : (cell : Cell) (h : Held) (w : List ℕ × List ℕ) → CellFits cell × IsCellInRange cell → IsHeldInRange h → map_cell cell h ≡ Some w → IsWord w.1
       is (Named key) h w fits held e = word_there key h.content w held.content e

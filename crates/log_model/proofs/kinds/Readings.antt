@@ -13,7 +13,7 @@ use Rattle.log_model.specs.kinds.Reading.{picked, gather, pick_in, keys, values,
 use Rattle.log_model.specs.plain.Rows.{row, without_session}
 use Rattle.log_model.specs.kinds.Deciding.{chosen, shown, call_of, effect_tells}
 use Rattle.log_model.proofs.Lookups.{T_from}
-use Rattle.log_model.proofs.Places.{place_total, exact_places}
+use Rattle.host_types.proofs.Places.{place_total, exact_places}
 use Rattle.log_model.proofs.kinds.Gather.{value_is_read, pairs_are, multimap_pairs_are, words_are, items_are, waiters_are, members_are, listeners_are}
 
 pub reads : (m : ℕ) (c : Cells) (plain : Plain) → T (is_sorted place_cmp c) → Shows m c plain → plain_in (kind_of plain) m c ≡ plain

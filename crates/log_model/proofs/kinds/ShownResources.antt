@@ -17,7 +17,7 @@ use Rattle.log_model.specs.cleaning.Cells.{owner_stands, fits_with_owner, is_cov
 use Rattle.log_model.specs.plain.Plain.{kind_of}
 use Rattle.log_model.specs.plain.Rows.{Does, Call, without_session}
 use Rattle.log_model.specs.kinds.Shows.{IsFresh, ResourceRowsShow, ResourceClosesShow}
-use Rattle.log_model.proofs.Places.{place_total, exact_places}
+use Rattle.host_types.proofs.Places.{place_total, exact_places}
 use Rattle.log_model.proofs.Lookups.{tied_true, any_from_found}
 use Rattle.log_model.proofs.cleaning.Changes.{or_else, at-uncovered}
 use Rattle.log_model.proofs.hosted.Parts.{put_or_not, at-without_owner}

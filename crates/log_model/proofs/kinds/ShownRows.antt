@@ -23,7 +23,8 @@ use Rattle.log_model.specs.cleaning.Cells.{fits_with_owner, after}
 use Rattle.log_model.specs.plain.Plain.{Plain, Member as Group_member, head_of, keyed, with_item, has_item, without_item, pair_cmp, Value_is, Counter_is, Map_is, Multimap_is, Set_is, Queue_is, Lock_is, Group_is, Topic_is}
 use Rattle.log_model.specs.plain.Rows.{Row, Does, Call, either, value_row, counter_row, map_row, multimap_row, set_row, takes_out, queue_row, is_waiter, lock_row, group_row, topic_row, row, fits_i64}
 use Rattle.log_model.specs.kinds.Shows.{content_at, number_of, index_at, member_cell, by_index, Shows, IsFresh, RowsShow}
-use Rattle.log_model.proofs.Places.{tie as text_tie, place_total, exact_places, exact_texts, cell_total, exact_cells}
+use Rattle.host_types.specs.CellOrder.{cell_total}
+use Rattle.host_types.proofs.Places.{tie as text_tie, place_total, exact_places, exact_texts, exact_cells}
 use Rattle.log_model.proofs.Lookups.{tied_true, tied_same}
 use Rattle.log_model.proofs.Sets.{put_sorted, where_sorted, has_with, has_filter, sorted_with, sorted_filter, sorted_push, sorted_where, any_push, any_filter}
 use Rattle.log_model.proofs.plain.Tracks.{untouched, written, emptied, other_place, same_text, text_itself, command_entry}

@@ -30,7 +30,7 @@ use Rattle.log_model.specs.plain.Admission.{Item, Offered, Expired, Admission, A
 use Rattle.log_model.specs.plain.Commands.{name_limit, with_plain, row_outcome, outcome_there, outcome_new, outcome_at, outcome, Outcome, Decided, Declined}
 use Rattle.log_model.specs.plain.Step.{with_batches, changed, kept_alive, with_reply, new_session, closed_name, commanded, step}
 use Rattle.log_model.specs.plain.Stored.{is_admission, is_admitted, decided_body, entry_of}
-use Rattle.log_model.proofs.Places.{place_total, exact_places, exact_texts}
+use Rattle.host_types.proofs.Places.{place_total, exact_places, exact_texts}
 use Rattle.log_model.proofs.Lookups.{tied_true, tied_same, any_from_found}
 use Rattle.log_model.proofs.cleaning.Changes.{Change, Written, Taken, Left, change}
 use Rattle.log_model.proofs.cleaning.Entries.{single, covers_puts, effect_register, effect_covers_register}

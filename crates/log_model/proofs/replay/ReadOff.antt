@@ -17,7 +17,7 @@ use Rattle.log_model.proofs.replay.Freely.{freely_alive, freely_reply}
 use Rattle.log_model.specs.plain.Plain.{Session}
 use Rattle.log_model.specs.plain.Step.{new_session}
 use Rattle.log_model.specs.cleaning.Sessions.{Fields, entry_of_held, with_alive, register_fields, open_fields}
-use Rattle.log_model.proofs.Places.{place_total, exact_places}
+use Rattle.host_types.proofs.Places.{place_total, exact_places}
 use Rattle.log_model.proofs.Lookups.{tied_true}
 use Rattle.log_model.proofs.cleaning.Joined.{Below}
 use Rattle.log_model.proofs.cleaning.Changes.{Change, Written, Taken, Left, change}

@@ -1,11 +1,13 @@
-use Rattle.std.proofs.Common.{◌≡◌, ◌==◌, ℕ, true, false, List, [], ◌∷◌, length, refl, sym, subst, arith}
+use Rattle.std.proofs.Common.{◌≡◌, ◌==◌, inl, ℕ, true, false, List, [], ◌∷◌, length, Option, refl, sym, subst, arith}
 use Rattle.std.proofs.lemmas.Bool.Decides.{nat_tests}
 use Rattle.copycat_tool.specs.Script.{command}
 use Rattle.copycat_tool.specs.Report.{Run, Report, Whole, ends, one, last_piece}
 use Rattle.copycat_tool.specs.declared.ending.Ending.TheVariants.{Done}
 use Rattle.copycat_tool.specs.Runs.{Ended}
+use Rattle.copycat_tool.specs.Turning.{HasRun}
 use Rattle.copycat_tool.proofs.Progress.{stays}
-use Rattle.copycat_tool.proofs.TurnLemmas.{answered_all, unchanged}
+use Rattle.copycat_tool.proofs.TurnLemmas.{answered_all}
+use Rattle.copycat_tool.proofs.Writing.{wrote_none}
 use Rattle.copycat_tool.proofs.answers.answer_last.Goals as goal
 
 zero_of : (n : ℕ) → true ≡ (n == 0) → n ≡ 0
@@ -24,34 +26,23 @@ one_line size [] run number some = absurd (some refl)
 one_line size (byte ∷ piece) run number some = refl
 
 pub returns-then-is_empty-clause-ended : goal.returns-then-is_empty-clause-ended
-returns-then-is_empty-clause-ended g c = λ t files run at before is.
+returns-then-is_empty-clause-ended g c = λ t files run at.
     let v = g.D.Disk.view c.args.host.now.disk in
     record {
       text = [];
-      written_is = unchanged (g.O.Sink.written c.args.out.now) before is;
+      wrote = wrote_none (g.O.Sink.written c.args.out.now);
       ended = subst (λ (l : List ℕ). Ended files run (last_piece files.size Whole run c.args.number l) v v [] Done) (sym (empty_is c.args.piece.now c.if-is_empty.ensures))
-          (stays files run (ends Done) v Done at.rest (record { ending_is = refl; all = refl; nothing_ahead = refl; no_part = refl }) refl at.rest.laid_out);
+          (stays files run (ends Done) v Done at.rest (record { ending_is = refl; all = refl; nothing_ahead = refl; no_part = refl }) (λ is. at.rest.laid_out));
     }
 
 pub returns-in-Ok-clause-ended : goal.returns-in-Ok-clause-ended
-returns-in-Ok-clause-ended g c = λ t files run at before is.
+returns-in-Ok-clause-ended g c = λ t files run at.
     let some : c.args.piece.now ≡ [] → ⊥ = some_is c.args.piece.now c.if-is_empty.ensures in
-    let a = c.in-Ok.ensures.answered t files run at before is in
-    let v = g.D.Disk.view c.args.host.now.disk in
-    let w = g.D.Disk.view c.turn.new.host.disk in
-    record {
-      text = a.text;
-      written_is = a.written_is;
-      ended = subst (λ (r : Report). Ended files run r v w a.text Done) (sym (one_line files.size c.args.piece.now run c.args.number some))
-          (answered_all files c.args.piece.now run c.args.number a.run' v w a.text a.answered a.at.rest);
-    }
+    subst (λ (r : Report). HasRun files r (g.D.Disk.view c.args.host.now.disk) (g.D.Disk.view c.turn.new.host.disk) run (g.O.Sink.written c.args.out.now) (g.O.Sink.written c.turn.new.out) Done) (sym (one_line files.size c.args.piece.now run c.args.number some))
+    (answered_all g.D.Disk.view files c.args.piece.now c.args.number c.args.host.now c.turn.new.host run (g.O.Sink.written c.args.out.now) (g.O.Sink.written c.turn.new.out) (c.in-Ok.ensures.turns t files run at))
 
 pub returns-in-Err-clause-ended : goal.returns-in-Err-clause-ended
-returns-in-Err-clause-ended g c = λ t files run at before is.
+returns-in-Err-clause-ended g c = λ t files run at.
     let some : c.args.piece.now ≡ [] → ⊥ = some_is c.args.piece.now c.if-is_empty.ensures in
-    let a = c.in-Err.ensures.ended t files run at before is in
-    record {
-      text = a.text;
-      written_is = a.written_is;
-      ended = subst (λ (r : Report). Ended files run r (g.D.Disk.view c.args.host.now.disk) (g.D.Disk.view c.turn.new.host.disk) a.text c.in-Err.ending) (sym (one_line files.size c.args.piece.now run c.args.number some)) (a.ended (λ _. ends Done));
-    }
+    subst (λ (r : Report). HasRun files r (g.D.Disk.view c.args.host.now.disk) (g.D.Disk.view c.turn.new.host.disk) run (g.O.Sink.written c.args.out.now) (g.O.Sink.written c.turn.new.out) c.in-Err.ending) (sym (one_line files.size c.args.piece.now run c.args.number some))
+    (c.in-Err.ensures.turns t files run at (λ _. ends Done))

@@ -1,19 +1,27 @@
-use Rattle.std.proofs.Common.{◌≡◌, ◌<◌, ℕ, inl, inr, take, ⊎_elim, refl, sym, ap, subst, ◌∙◌, Err, arith}
+use Rattle.std.proofs.Common.{◌≡◌, ◌<◌, ◌≤◌, ℕ, inl, inr, take, refl, sym, ap, subst, ◌∙◌, List, Option, Some, Err, arith}
+use Rattle.disk_model.specs.Image.{Image}
+use Rattle.disk_model.proofs.Moments.{went_on}
 use Rattle.script_io.specs.Streams.{Rose}
-use Rattle.segment_set.specs.declared.opening.OpenError.TheVariants.{Damaged}
+use Rattle.segment_set.specs.declared.opening.OpenError.{OpenError}
+use Rattle.segment_set.specs.declared.opening.OpenError.TheVariants as errors
 use Rattle.segment_set.specs.Opening.{id_from}
 use Rattle.host_recovery.specs.Standing.{layout_in}
-use Rattle.copycat_tool.specs.Programs.{RunsInOrder}
+use Rattle.copycat_tool.specs.declared.ending.Ending.{Ending}
+use Rattle.copycat_tool.specs.declared.ending.Ending.TheVariants.{DiskFault, Damaged}
+use Rattle.copycat_tool.specs.Closing.{EndsRun, HasCauses}
+use Rattle.copycat_tool.specs.Endings.{ending_of}
+use Rattle.copycat_tool.specs.Programs.{IsUnopened, RunsInOrder}
 use Rattle.copycat_tool.specs.Report.{Run}
-use Rattle.copycat_tool.specs.Runs.{Files, HasPrefix}
+use Rattle.copycat_tool.specs.Runs.{Files, HasPrefix, RanSo}
 use Rattle.copycat_tool.specs.Standing.{IsAt}
-use Rattle.copycat_tool.proofs.CallLemmas.{Keeps, is_at}
+use Rattle.copycat_tool.proofs.CallLemmas.{Keeps, is_at, plain_files}
 use Rattle.copycat_tool.proofs.LogLemmas.{logged_front}
-use Rattle.copycat_tool.proofs.ProgramLemmas.{damage_written, in_order_no_fault, left_plain, runs_from_start, still_in_order, to_hosted}
+use Rattle.copycat_tool.proofs.ProgramLemmas.{damage_from, fault_from, left_plain, of_calls, opens_and_runs, stays_unopened, still_in_order, to_hosted, unopened_of}
+use Rattle.copycat_tool.proofs.RunLemmas.{causes, tells_damage}
 use Rattle.copycat_tool.proofs.program.run_log.Goals as goal
 
 pub returns-in-Ok-clause-ran : goal.returns-in-Ok-clause-ran
-returns-in-Ok-clause-ran g c = λ t log least order bytes before left was.
+returns-in-Ok-clause-ran g c = λ t log least order bytes left.
     let law = c.logs_of_catalogs_are_plain.ensures in
     let name = c.args.name.now in
     let files : Files = record { name = name; size = c.args.size } in
@@ -22,74 +30,73 @@ returns-in-Ok-clause-ran g c = λ t log least order bytes before left was.
     let m = g.D.Disk.view h.disk in
     let hosted = to_hosted law name log least order.logged v order in
     let o = c.in-Ok.ensures.stands t log least hosted in
+    let logged = logged_front o.count log order.logged in
     let run : Run = record { log = take o.count log; layout = layout_in m h.parts } in
     let keeps : Keeps g.D.Disk.view h = record { images = c.keeps.ensures.images t; empty = c.keeps.ensures.empty t; last = c.keeps.ensures.last; layout = c.keeps.ensures.layout t; file = c.keeps.ensures.file t } in
-    let at : IsAt g.D.Disk.view files h run = is_at law g.D.Disk.view files h keeps (g.met.D.Disk.sound h.disk t) run c.in-Ok.ensures.name.0 c.in-Ok.ensures.name.1 o.stands (logged_front o.count log order.logged) refl in
+    let at : IsAt g.D.Disk.view files h run = is_at law g.D.Disk.view files h keeps (g.met.D.Disk.sound h.disk t) run c.in-Ok.ensures.name.0 c.in-Ok.ensures.name.1 o.stands logged refl in
     let opening = left_plain law name log least order.logged v m (c.in-Ok.ensures.any_moment t log least hosted) in
-    let P : g.row.D.Denot → Type 0 = λ d. RunsInOrder files log least bytes (g.I.Source.left c.run_script-status.new.script) v (g.D.Disk.view d) before (g.O.Sink.written c.run_script-status.new.out) c.run_script-status.result.0
+    let P : g.row.D.Denot → Type 0 = λ d. RunsInOrder files log least bytes (g.I.Source.left c.run_script-status.new.script) v (g.D.Disk.view d) (g.O.Sink.written c.args.out.now) (g.O.Sink.written c.run_script-status.new.out) c.run_script-status.result.0
     (Rose (g.I.Source.faults c.args.script.now) (g.I.Source.faults c.run_script-status.new.script)) (g.D.Disk.faults c.args.disk < g.D.Disk.faults d) in
-    let closed = c.run_script-status.ensures.ran t files run at bytes before left was in
+    let closed = c.run_script-status.ensures.ran t files run at bytes left in
     subst P (sym c.close.ensures)
     (record {
       text = closed.text;
-      written_is = closed.written_is;
-      how = inl (record {
-        run = run;
-        count = o.count;
-        enough = o.enough;
-        within = o.within;
-        log_is = refl;
-        lies = c.in-Ok.ensures.lies t;
-        ran = runs_from_start files run bytes (g.I.Source.left c.run_script-status.new.script) v m (g.D.Disk.view c.run_script-status.new.host.disk) (HasPrefix name log least) closed.text c.run_script-status.result.0
-            (Rose (g.I.Source.faults c.args.script.now) (g.I.Source.faults c.run_script-status.new.script)) (g.D.Disk.faults h.disk < g.D.Disk.faults c.run_script-status.new.host.disk) (g.D.Disk.faults c.args.disk < g.D.Disk.faults c.run_script-status.new.host.disk)
-            opening (λ rose. omega (arith, rose, c.in-Ok.ensures.cause.later)) closed.ran;
-      });
+      wrote = closed.wrote;
+      how = inl (opens_and_runs files log least bytes _ v m _ closed.text _ _ _ _ run o.count o.enough o.within refl (plain_files law h.parts.name name run.log logged c.in-Ok.ensures.name.0 v.reading o.read) (c.in-Ok.ensures.lies t) opening closed.time
+          (λ rose. omega (arith, rose, c.in-Ok.ensures.cause.later)) closed.ran);
     })
 
-pub returns-in-Ok-clause-damage_told : goal.returns-in-Ok-clause-damage_told
-returns-in-Ok-clause-damage_told g c = λ t id fault. absurd (c.in-Ok.ensures.faultless t id fault)
+pub returns-in-Ok-clause-faulty : goal.returns-in-Ok-clause-faulty
+returns-in-Ok-clause-faulty g c = λ t id fault. absurd (c.in-Ok.ensures.faultless t id fault)
 
-pub returns-in-Ok-clause-unharmed : goal.returns-in-Ok-clause-unharmed
-returns-in-Ok-clause-unharmed g c = λ t id fault. absurd (c.in-Ok.ensures.faultless t id fault)
+pub returns-in-Ok-clause-damaged : goal.returns-in-Ok-clause-damaged
+returns-in-Ok-clause-damaged g c = λ seven t. absurd (c.run_script-status.ensures.undamaged seven t)
 
 pub returns-in-Err-clause-ran : goal.returns-in-Err-clause-ran
-returns-in-Err-clause-ran g c = λ t log least order bytes before left was.
+returns-in-Err-clause-ran g c = λ t log least order bytes left.
     let law = c.logs_of_catalogs_are_plain.ensures in
     let name = c.args.name.now in
     let v = g.D.Disk.view c.args.disk in
     let w = g.D.Disk.view c.in-Err.disk in
     let hosted = to_hosted law name log least order.logged v order in
     let moments = left_plain law name log least order.logged v w (c.in-Err.ensures.any_moment t log least hosted) in
-    let closed = c.close_unopened.ensures.closes before was in
-    let damage : (base generation at : ℕ) → c.in-Err.error ≡ Damaged base generation at → ⊥ =
-    λ base generation at is. in_order_no_fault v name log least _ (g.met.D.Disk.sound c.args.disk t) order ((c.in-Err.ensures.damaged base generation at (ap Err is)).1 t).0 in
+    let e = c.close_run.ensures.ends in
     record {
-      text = closed.text;
-      written_is = closed.written_is;
+      text = e.text;
+      wrote = e.wrote;
       how = inr (record {
-        told = closed.told;
-        undamaged = λ base generation at is. ⊎_elim (λ same. damage base generation at (sym same ∙ is)) (λ none. cc (none, is)) closed.why;
-        disk_fault = λ is. ⊎_elim (λ same. c.in-Err.ensures.cause.failed (ap Err (sym same ∙ is))) (λ none. absurd (cc (none, is))) closed.why;
-        closes = closed.closes;
+        unopened = stays_unopened name (Some bytes) _ v _ _ (unopened_of name v _ c.in-Err.error _ c.of_opening.ensures (λ is. c.in-Err.ensures.cause.failed (ap Err is)) (λ base generation at is. ((c.in-Err.ensures.damaged base generation at (ap Err is)).0, ((c.in-Err.ensures.damaged base generation at (ap Err is)).1 t).0)))
+            _ _ _ _ _ e left;
         any_moment = moments;
         at_exit = still_in_order law name log least order.logged v w (g.met.D.Disk.sound c.in-Err.disk t) moments (c.in-Err.ensures.empty t order.empty);
-        unread = left;
       });
     }
 
-pub returns-in-Err-clause-damaged : goal.returns-in-Err-clause-damaged
-returns-in-Err-clause-damaged g c = λ seven t before was.
-    let damage = c.close_unopened.ensures.damaged seven in
-    let fault = c.in-Err.ensures.damaged damage.0 damage.1 damage.2 (ap Err damage.3) in
+pub returns-in-Err-clause-faulty : goal.returns-in-Err-clause-faulty
+returns-in-Err-clause-faulty g c = λ t id fault.
+    let name = c.args.name.now in
+    let v = g.D.Disk.view c.args.disk in
+    let e = c.close_run.ensures.ends in
+    let harm = c.in-Err.ensures.unharmed t id fault in
     record {
-      id = id_from damage.0 damage.1;
-      fault = (fault.1 t).0;
-      same = (fault.1 t).1;
-      written_is = damage_written c.args.name.now c.in-Err.error before _ c.close_unopened.result.0 (c.close_unopened.ensures.closes before was) seven damage.0 damage.1 damage.2 damage.3 fault.0;
+      text = e.text;
+      wrote = e.wrote;
+      unopened = stays_unopened name _ _ v _ _ (unopened_of name v _ c.in-Err.error _ c.of_opening.ensures (λ is. c.in-Err.ensures.cause.failed (ap Err is)) (λ base generation at is. ((c.in-Err.ensures.damaged base generation at (ap Err is)).0, ((c.in-Err.ensures.damaged base generation at (ap Err is)).1 t).0)))
+          _ _ _ _ _ e refl;
+      same = harm.0;
+      any_moment = harm.1;
     }
 
-pub returns-in-Ok-clause-unopened : goal.returns-in-Ok-clause-unopened
-returns-in-Ok-clause-unopened g c = λ t id fault. absurd (c.in-Ok.ensures.faultless t id fault)
+pub returns-in-Err-clause-damaged : goal.returns-in-Err-clause-damaged
+returns-in-Err-clause-damaged g c = λ seven t.
+    let d = tells_damage _ _ _ _ _ _ _ c.close_run.ensures.ends seven in
+    let is = damage_from c.in-Err.error d.0 d.1 d.2 (sym c.of_opening.ensures ∙ d.3) in
+    (id_from d.0 d.1, ((c.in-Err.ensures.damaged d.0 d.1 d.2 (ap Err is)).1 t).0)
 
-pub returns-in-Err-clause-unopened : goal.returns-in-Err-clause-unopened
-returns-in-Err-clause-unopened g c = λ t id fault. (refl, λ before was. record { error = c.in-Err.error; closes = c.close_unopened.ensures.closes before was })
+pub returns-in-Err-clause-causes : goal.returns-in-Err-clause-causes
+returns-in-Err-clause-causes g c =
+    causes _ _ _ _ _ _ _ c.close_run.ensures.ends _ _ _
+    (λ is. absurd (of_calls c.in-Err.error (inl (sym c.of_opening.ensures ∙ is))))
+    (λ is. absurd (of_calls c.in-Err.error (inr (sym c.of_opening.ensures ∙ is))))
+    (λ rose. rose)
+    (λ is. c.in-Err.ensures.cause.failed (ap Err (fault_from c.in-Err.error (sym c.of_opening.ensures ∙ is))))

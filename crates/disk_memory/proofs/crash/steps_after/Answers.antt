@@ -5,7 +5,7 @@ use Rattle.std.specs.declared.alloc.Global.{Global}
 use Rattle.disk_memory.specs.declared.steps.Step.{Step}
 use Rattle.disk_memory.specs.History.{history}
 use Rattle.disk_memory.specs.Outcomes.{left}
-use Rattle.disk_memory.specs.Placed.{EachSettled}
+use Rattle.disk_model.specs.View.{EachSettled}
 use Rattle.disk_memory.specs.Versions.{newest, version_place}
 use Rattle.disk_memory.proofs.Crashed.{Left, settled_push, left_passed, left_pushed, left_all}
 use Rattle.disk_memory.proofs.Outcomes.{left_nothing}

@@ -1,7 +1,7 @@
 use Rattle.std.proofs.Common.{take}
 use Rattle.disk_memory.specs.History.{history}
 use Rattle.disk_memory.specs.Outcomes.{left}
-use Rattle.disk_memory.specs.Placed.{EachSettled}
+use Rattle.disk_model.specs.View.{EachSettled}
 use Rattle.disk_memory.proofs.Crashed.{Left}
 use Rattle.disk_memory.proofs.crash.steps_after.Given as goal
 

@@ -9,7 +9,7 @@ use Rattle.segment_files.proofs.reading.read_frames.Goals as goal
 
 pub loop-at-init : goal.loop-at-init
 loop-at-init g c = record {
-  looks = λ t. looks_not (g.D.Disk.view c.args.disk.now);
+  looks = λ t. looks_not (g.D.Disk.view c.args.disk.now) (g.met.D.Disk.sound c.args.disk.now t);
   faults = omega arith;
   some = c.requires.buffer;
   numbered = subst (AreNumbered (c.args.id.base - 1)) (sym c.requires.none) tt;

@@ -1,18 +1,16 @@
 use Rattle.std.proofs.Common.{◌≡◌, ◌∙◌, subst, sym, ap, arith, map, List}
-use Rattle.event_batches.specs.Kept.{Kept, as_kept, above}
+use Rattle.event_batches.specs.Kept.{Kept, as_kept, trimmed}
 use Rattle.event_batches.specs.Rising.{Rises}
 use Rattle.event_batches.specs.Dropping.{linked_to}
 use Rattle.event_batches.specs.declared.batch.Batch.{Batch}
 use Rattle.event_batches.proofs.Searching.{rises_lower}
-use Rattle.event_batches.proofs.RisingLists.{over_all, filter_through}
-use Rattle.event_batches.proofs.Queues.{chain_cut, rises_cut, kept_cut, IsChain}
+use Rattle.event_batches.proofs.Queues.{chain_cut, rises_cut, kept_cut, trimmed_none, trimmed_some, IsChain}
 use Rattle.event_batches.proofs.queue.Queue.trim.Goals as goal
 
 pub returns-then-event-self-clause-batches : goal.returns-then-event-self-clause-batches
 returns-then-event-self-clause-batches c =
-    subst (λ (q : Kept). q.batches ≡ above c.args.event q.batches) c.self.view_is
-    (ap (map as_kept) (sym (over_all (λ b. b.index) c.args.event c.self.inside.acked c.self.inside.kept.items (omega (arith, c.if-event-self.true)) c.self.invariant.rising))
-    ∙ sym (filter_through as_kept _ c.self.inside.kept.items))
+    subst (λ (q : Kept). q.batches ≡ trimmed q.acked c.args.event q.batches) c.self.view_is
+    (trimmed_none c.self.inside.acked c.args.event (map as_kept c.self.inside.kept.items) c.if-event-self.true)
 
 pub drop_up_to-requires : goal.drop_up_to-requires
 drop_up_to-requires c = rises_lower (λ b. b.index) 0 c.self.inside.acked c.self.inside.kept.items (omega arith) c.self.invariant.rising
@@ -32,4 +30,5 @@ returns-clause-batches c =
     let items = c.self.inside.kept.items in
     ap (map as_kept) (c.link_first.ensures.items ∙ ap (linked_to c.args.event) c.drop_up_to.ensures.items)
     ∙ kept_cut c.args.event items
-    ∙ ap (λ (q : Kept). above c.args.event q.batches) c.self.view_is
+    ∙ trimmed_some c.self.inside.acked c.args.event (map as_kept items) c.if-event-self.false
+    ∙ ap (λ (q : Kept). trimmed q.acked c.args.event q.batches) c.self.view_is

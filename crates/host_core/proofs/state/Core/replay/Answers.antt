@@ -5,7 +5,7 @@ use Rattle.host_core.specs.Entering.{beside_after}
 use Rattle.host_core.proofs.state.Core.replay.Goals as goal
 
 pub returns-clause-ok : goal.returns-clause-ok
-returns-clause-ok κs c = c.take.ensures.state ∙ ap (λ h. replay_entry (hosted_told κs.M.Machine.decides) c.args.cut h (c.args.index, c.args.entry)) c.reserve.ensures.state
+returns-clause-ok κs c = c.take.ensures.state ∙ ap (λ h. replay_entry (hosted_told κs.M.Machine.decides) c.args.cut h (c.args.index, c.args.entry)) c.make_room.ensures.state
 
 pub returns-clause-beside : goal.returns-clause-beside
-returns-clause-beside κs c = c.take.ensures.beside ∙ ap (beside_after c.args.index c.args.entry.body) c.reserve.ensures.sessions.beside
+returns-clause-beside κs c = c.take.ensures.beside ∙ ap (beside_after c.args.index c.args.entry.body) c.make_room.ensures.sessions.beside

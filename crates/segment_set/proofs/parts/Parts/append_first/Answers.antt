@@ -8,6 +8,8 @@ use Rattle.segment_set.specs.Fits.{IsFrameFor, IsTailAt, with_entry}
 use Rattle.segment_set.proofs.Starting.{fits_when_at, at_name, held_none, left_making, frame_first, starts_parts, starts_fits, starts_held, left_starting}
 use Rattle.segment_set.specs.Fits.{first_id, frame_size}
 use Rattle.segment_set.proofs.Emptied.{not_listed, tail_listed}
+use Rattle.segment_set.proofs.Gaining.{keeps_names}
+use Rattle.segment_set.proofs.Names.{names_further}
 use Rattle.segment_set.proofs.parts.Parts.append_first.Goals as goal
 
 pub returns-in-Err-clause-any_moment : goal.returns-in-Err-clause-any_moment
@@ -146,3 +148,21 @@ returns-in-Err-push_frame-clause-empty g c = λ t held none.
     (c.push_frame.ensures.any_moment t (new_tail tail.id size) entry (at_name m name c.begin.new.self.name tail (new_tail tail.id size) c.begin.ensures.name (c.in-Ok.ensures.made t)).whole f
     (subst (λ (n : List ℕ). EachHas m n (new_tail tail.id size ∷ [])) (sym c.begin.ensures.name)
     (c.in-Ok.ensures.held t (held_none v name c.args.self.now.tail c.args.self.now.greatest c.requires.none held))))) none)
+
+pub returns-in-Ok-push_frame-clause-others : goal.returns-in-Ok-push_frame-clause-others
+returns-in-Ok-push_frame-clause-others g c = λ t.
+    let v = g.D.Disk.view c.args.disk.now in
+    let m = g.D.Disk.view c.begin.new.disk in
+    let w = g.D.Disk.view c.push_frame.new.disk in
+    let name = c.args.self.now.name in
+    names_further v m w name (keeps_names v m name (first_id (c.args.self.now.greatest + 1)) (c.begin.ensures.others t))
+    (keeps_names m w name c.in-Ok.tail.id (subst (λ (n : List ℕ). KeepsOthers m w (place n c.in-Ok.tail.id)) c.begin.ensures.name (c.push_frame.ensures.others t)))
+
+pub returns-in-Err-push_frame-clause-others : goal.returns-in-Err-push_frame-clause-others
+returns-in-Err-push_frame-clause-others g c = λ t.
+    let v = g.D.Disk.view c.args.disk.now in
+    let m = g.D.Disk.view c.begin.new.disk in
+    let w = g.D.Disk.view c.push_frame.new.disk in
+    let name = c.args.self.now.name in
+    names_further v m w name (keeps_names v m name (first_id (c.args.self.now.greatest + 1)) (c.begin.ensures.others t))
+    (keeps_names m w name c.in-Ok.tail.id (subst (λ (n : List ℕ). KeepsOthers m w (place n c.in-Ok.tail.id)) c.begin.ensures.name (c.push_frame.ensures.others t)))

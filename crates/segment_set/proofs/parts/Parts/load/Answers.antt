@@ -14,6 +14,7 @@ use Rattle.segment_set.proofs.Turns.{closed_then, found_id, listed_again}
 use Rattle.segment_set.proofs.Emptied.{empty_stays, emptied}
 use Rattle.segment_set.proofs.Faultless.{surveyed_no_fault}
 use Rattle.segment_set.proofs.Turns.{left_further}
+use Rattle.segment_set.proofs.Names.{names_further, names_looked, names_removed}
 use Rattle.segment_set.proofs.parts.Parts.load.Goals as goal
 
 pub returns-in-Err-clause-any_moment : goal.returns-in-Err-clause-any_moment
@@ -260,3 +261,53 @@ returns-clause-unharmed g c = λ t id fault.
     absurd (surveyed_no_fault v0 v1 c.args.name.now c.in-Ok.ids.items found.closed.items found.opened c.in-Ok-tail_of.tail id (c.in-Ok.ensures.lists t) (c.settle_all.ensures.reading t)
     (subst (λ (l : List FileId). Surveyed (folder c.args.name.now v1.reading) l found.closed.items (opened_id found.opened)) c.deref.ensures.value (c.in-Ok-read_all.ensures.surveyed t))
     (c.in-Ok-read_all.ensures.opened t) c.in-Ok-tail_of.ensures.ok fault)
+
+pub returns-in-Err-clause-others : goal.returns-in-Err-clause-others
+returns-in-Err-clause-others g c = λ t.
+    names_looked (g.D.Disk.view c.args.disk.now) (g.D.Disk.view c.settle_all.new.disk) c.args.name.now (g.met.D.Disk.sound c.settle_all.new.disk t) (c.settle_all.ensures.reading t) (c.settle_all.ensures.any_moment t)
+
+pub returns-in-Err-read_all-clause-others : goal.returns-in-Err-read_all-clause-others
+returns-in-Err-read_all-clause-others g c = λ t.
+    let v0 = g.D.Disk.view c.args.disk.now in
+    let v1 = g.D.Disk.view c.settle_all.new.disk in
+    let v2 = g.D.Disk.view c.read_all.new.disk in
+    let name = c.args.name.now in
+    let looked = names_further v0 v1 v2 name
+    (names_looked v0 v1 name (g.met.D.Disk.sound c.settle_all.new.disk t) (c.settle_all.ensures.reading t) (c.settle_all.ensures.any_moment t))
+    (names_looked v1 v2 name (g.met.D.Disk.sound c.read_all.new.disk t) (c.read_all.ensures.reading t) (c.read_all.ensures.any_moment t)) in
+    looked
+
+pub returns-in-Err-tail_of-clause-others : goal.returns-in-Err-tail_of-clause-others
+returns-in-Err-tail_of-clause-others g c = λ t.
+    let v0 = g.D.Disk.view c.args.disk.now in
+    let v1 = g.D.Disk.view c.settle_all.new.disk in
+    let v2 = g.D.Disk.view c.read_all.new.disk in
+    let name = c.args.name.now in
+    let looked = names_further v0 v1 v2 name
+    (names_looked v0 v1 name (g.met.D.Disk.sound c.settle_all.new.disk t) (c.settle_all.ensures.reading t) (c.settle_all.ensures.any_moment t))
+    (names_looked v1 v2 name (g.met.D.Disk.sound c.read_all.new.disk t) (c.read_all.ensures.reading t) (c.read_all.ensures.any_moment t)) in
+    looked
+
+pub returns-in-Ok-remove_all-clause-others : goal.returns-in-Ok-remove_all-clause-others
+returns-in-Ok-remove_all-clause-others g c = λ t.
+    let v0 = g.D.Disk.view c.args.disk.now in
+    let v1 = g.D.Disk.view c.settle_all.new.disk in
+    let v2 = g.D.Disk.view c.read_all.new.disk in
+    let name = c.args.name.now in
+    let looked = names_further v0 v1 v2 name
+    (names_looked v0 v1 name (g.met.D.Disk.sound c.settle_all.new.disk t) (c.settle_all.ensures.reading t) (c.settle_all.ensures.any_moment t))
+    (names_looked v1 v2 name (g.met.D.Disk.sound c.read_all.new.disk t) (c.read_all.ensures.reading t) (c.read_all.ensures.any_moment t)) in
+    names_further v0 v2 (g.D.Disk.view c.remove_all.new.disk) name looked
+    (names_removed v2 (g.D.Disk.view c.remove_all.new.disk) name _ (g.met.D.Disk.sound c.remove_all.new.disk t) (c.remove_all.ensures.others t) (c.remove_all.ensures.any_moment t))
+
+pub returns-clause-others : goal.returns-clause-others
+returns-clause-others g c = λ t.
+    let v0 = g.D.Disk.view c.args.disk.now in
+    let v1 = g.D.Disk.view c.settle_all.new.disk in
+    let v2 = g.D.Disk.view c.read_all.new.disk in
+    let name = c.args.name.now in
+    let looked = names_further v0 v1 v2 name
+    (names_looked v0 v1 name (g.met.D.Disk.sound c.settle_all.new.disk t) (c.settle_all.ensures.reading t) (c.settle_all.ensures.any_moment t))
+    (names_looked v1 v2 name (g.met.D.Disk.sound c.read_all.new.disk t) (c.read_all.ensures.reading t) (c.read_all.ensures.any_moment t)) in
+    names_further v0 v2 (g.D.Disk.view c.remove_all.new.disk) name looked
+    (names_removed v2 (g.D.Disk.view c.remove_all.new.disk) name _ (g.met.D.Disk.sound c.remove_all.new.disk t) (c.remove_all.ensures.others t) (c.remove_all.ensures.any_moment t))

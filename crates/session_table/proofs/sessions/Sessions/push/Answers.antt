@@ -1,7 +1,10 @@
 use Rattle.std.proofs.Common.{◌∙◌, ap, subst, sym, arith}
 use Rattle.log_model.specs.plain.Plain.{Session}
 use Rattle.log_model.specs.plain.Step.{changed}
-use Rattle.session_table.specs.Table.{Table, with_batch}
+use Rattle.log_model.specs.replay.Replay.{pushed}
+use Rattle.log_model.proofs.replay.Rising.{push_id}
+use Rattle.session_table.proofs.Timely.{push_deadline}
+use Rattle.session_table.specs.Table.{Table}
 use Rattle.session_table.specs.Deadlines.{deadline}
 use Rattle.session_table.proofs.Tables.{changed_in, in_order, spare_stays, open_in, shows_in, slot_filled, replies_beside, batches_beside}
 use Rattle.session_table.specs.Asked.{NewerBatch}
@@ -23,23 +26,23 @@ push-requires-clause-index c =
 
 pub invariant_of-self : goal.invariant_of-self
 invariant_of-self c =
-    in_order c.self.inside c.args.id c.open_slot-slot.result c.index_mut.result.now c.push.new.self c.self.invariant (changed_in c.self.inside c.args.id c.open_slot-slot.result c.index_mut.result.now c.push.new.self c.self.invariant c.open_slot-slot.ensures c.index_mut.ensures.value (ap (λ (x : Session). x.id) c.push.ensures.session)) c.index_mut.ensures.value (ap deadline c.push.ensures.session)
+    in_order c.self.inside c.args.id c.open_slot-slot.result c.index_mut.result.now c.push.new.self c.self.invariant (changed_in c.self.inside c.args.id c.open_slot-slot.result c.index_mut.result.now c.push.new.self c.self.invariant c.open_slot-slot.ensures c.index_mut.ensures.value (ap (λ (x : Session). x.id) c.push.ensures.session ∙ push_id c.args.index c.args.events c.index_mut.result.now.session)) c.index_mut.ensures.value (ap deadline c.push.ensures.session ∙ push_deadline c.args.index c.args.events c.index_mut.result.now.session)
 
 pub returns-clause-sessions : goal.returns-clause-sessions
 returns-clause-sessions c =
-    (changed_in c.self.inside c.args.id c.open_slot-slot.result c.index_mut.result.now c.push.new.self c.self.invariant c.open_slot-slot.ensures c.index_mut.ensures.value (ap (λ (x : Session). x.id) c.push.ensures.session)).sessions (with_batch c.args.index c.args.events) (sym c.push.ensures.session) ∙ ap (λ (t : Table). changed c.args.id (with_batch c.args.index c.args.events) t.sessions) c.self.view_is
+    (changed_in c.self.inside c.args.id c.open_slot-slot.result c.index_mut.result.now c.push.new.self c.self.invariant c.open_slot-slot.ensures c.index_mut.ensures.value (ap (λ (x : Session). x.id) c.push.ensures.session ∙ push_id c.args.index c.args.events c.index_mut.result.now.session)).sessions (pushed c.args.index c.args.events) (sym c.push.ensures.session) ∙ ap (λ (t : Table). changed c.args.id (pushed c.args.index c.args.events) t.sessions) c.self.view_is
 
 pub returns-clause-beside : goal.returns-clause-beside
 returns-clause-beside c =
-    (changed_in c.self.inside c.args.id c.open_slot-slot.result c.index_mut.result.now c.push.new.self c.self.invariant c.open_slot-slot.ensures c.index_mut.ensures.value (ap (λ (x : Session). x.id) c.push.ensures.session)).beside_stays c.push.ensures.confirmed ∙ ap (λ (t : Table). t.beside) c.self.view_is
+    (changed_in c.self.inside c.args.id c.open_slot-slot.result c.index_mut.result.now c.push.new.self c.self.invariant c.open_slot-slot.ensures c.index_mut.ensures.value (ap (λ (x : Session). x.id) c.push.ensures.session ∙ push_id c.args.index c.args.events c.index_mut.result.now.session)).beside_stays c.push.ensures.confirmed ∙ ap (λ (t : Table). t.beside) c.self.view_is
 
 pub returns-clause-replies : goal.returns-clause-replies
 returns-clause-replies c =
-    λ other. replies_beside c.self.inside c.args.self.now c.args.id c.open_slot-slot.result c.index_mut.result.now c.push.new.self (changed_in c.self.inside c.args.id c.open_slot-slot.result c.index_mut.result.now c.push.new.self c.self.invariant c.open_slot-slot.ensures c.index_mut.ensures.value (ap (λ (x : Session). x.id) c.push.ensures.session)) c.self.view_is other (λ e. omega (arith, c.push.ensures.reply_room))
+    λ other. replies_beside c.self.inside c.args.self.now c.args.id c.open_slot-slot.result c.index_mut.result.now c.push.new.self (changed_in c.self.inside c.args.id c.open_slot-slot.result c.index_mut.result.now c.push.new.self c.self.invariant c.open_slot-slot.ensures c.index_mut.ensures.value (ap (λ (x : Session). x.id) c.push.ensures.session ∙ push_id c.args.index c.args.events c.index_mut.result.now.session)) c.self.view_is other (λ e. omega (arith, c.push.ensures.reply_room))
 
 pub returns-clause-batches : goal.returns-clause-batches
 returns-clause-batches c =
-    λ other ne. batches_beside c.self.inside c.args.self.now c.args.id c.open_slot-slot.result c.index_mut.result.now c.push.new.self (changed_in c.self.inside c.args.id c.open_slot-slot.result c.index_mut.result.now c.push.new.self c.self.invariant c.open_slot-slot.ensures c.index_mut.ensures.value (ap (λ (x : Session). x.id) c.push.ensures.session)) c.self.view_is other (λ e. absurd (ne e))
+    λ other ne. batches_beside c.self.inside c.args.self.now c.args.id c.open_slot-slot.result c.index_mut.result.now c.push.new.self (changed_in c.self.inside c.args.id c.open_slot-slot.result c.index_mut.result.now c.push.new.self c.self.invariant c.open_slot-slot.ensures c.index_mut.ensures.value (ap (λ (x : Session). x.id) c.push.ensures.session ∙ push_id c.args.index c.args.events c.index_mut.result.now.session)) c.self.view_is other (λ e. absurd (ne e))
 
 pub returns-clause-spare : goal.returns-clause-spare
 returns-clause-spare c = spare_stays c.self.inside c.args.self.now c.open_slot-slot.result c.index_mut.result.now c.push.new.self c.self.view_is c.index_mut.ensures.value

@@ -1,0 +1,12 @@
+pub mod Shown
+pub mod Places
+pub mod Stepping
+pub mod Bridge
+pub mod Effects
+pub mod Walks
+pub mod Owning
+pub mod Readying
+pub mod Facts
+pub mod Found
+pub mod Coming
+pub mod Paired

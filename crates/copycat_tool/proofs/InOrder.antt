@@ -1,0 +1,64 @@
+-- For the laws of folders that are in order.
+use Rattle.std.proofs.Common.{◌≡◌, ◌≤◌, ℕ, List, [], length, take, Option, Some, None, refl, sym, ap, ◌∙◌, subst, arith, Contains, length-take}
+use Rattle.disk_model.specs.declared.file_id.FileId.{FileId}
+use Rattle.disk_model.specs.Image.{Image, place}
+use Rattle.disk_model.specs.View.{View, EachSettled, IsListed, MayLeave}
+use Rattle.host_types.specs.declared.entry.Entry.{Entry}
+use Rattle.segment_files.specs.Folder.{Folder, IsChoice, Stands, folder, found}
+use Rattle.segment_files.specs.Parse.{Closed, Found, Part}
+use Rattle.segment_set.proofs.AreLogs.{are_none}
+use Rattle.segment_set.proofs.Images.{nothing}
+use Rattle.log_model.specs.plain.Admission.{Item}
+use Rattle.log_model.specs.plain.Stored.{stored}
+use Rattle.copycat_tool.specs.Logs.{IsLog, StandsFor}
+use Rattle.copycat_tool.specs.Runs.{HasPrefix, IsInOrder, IsInOrderFor}
+use Rattle.copycat_tool.proofs.LogLemmas.{logged_front}
+use Rattle.copycat_tool.proofs.Prefixes.{all_of}
+
+-- no file has an open gate
+no_parts : (files : Folder) → ((id : FileId) → files id ≡ Closed) → IsChoice files []
+no_parts files closed = record {
+  stand = λ p has. absurd (nothing p has);
+  cover = λ id q is. absurd (cc (closed id, is));
+  undamaged = λ id at is. cc (closed id, is);
+  one = omega arith;
+}
+
+module _ (v : View) (settled : EachSettled v) where
+  -- whatever a crash leaves, its files are those that are read
+  same_files : (name : List ℕ) (image : Image) → MayLeave v image → folder name image ≡ folder name v.reading
+  same_files name image may = λ i id. found id (settled (place name id) (image (place name id)) (may (place name id)) i)
+
+  closed_files : (name : List ℕ) → ((id : FileId) → v.reading (place name id) ≡ None) → (image : Image) → MayLeave v image → (id : FileId) → folder name image id ≡ Closed
+  closed_files name none image may id = ap (found id) (settled (place name id) (image (place name id)) (may (place name id)) ∙ none id)
+
+  -- where nothing is listed there is nothing
+  unlisted : (name : List ℕ) → ((id : FileId) → IsListed v (place name id) → ⊥) → (id : FileId) → v.reading (place name id) ≡ None
+  unlisted name none id = at (v.reading (place name id)) refl
+    where
+      at : (o : Option (List ℕ)) → v.reading (place name id) ≡ o → v.reading (place name id) ≡ None
+      at None is = is
+      at (Some bytes) is = absurd (none id (bytes, is))
+
+  pub empty_in_order : (name : List ℕ) → ((id : FileId) → v.reading (place name id) ≡ None) → IsInOrder name v [] 0
+  empty_in_order name none = record {
+    logged = record { admitted = refl; fits = tt; built = tt };
+    each = λ image may. all_of name [] 0 image (omega arith) (record { parts = []; choice = no_parts (folder name image) (closed_files name none image may); are = are_none });
+    empty = λ no image may. no_parts (folder name image) (closed_files name none image may);
+  }
+
+  -- what is read stands for a log, and so does whatever a crash leaves
+  pub settled_in_order : (name : List ℕ) (log : List Item) → IsLog log → StandsFor name v.reading log → IsInOrder name v log (length log)
+  settled_in_order name log logged stands = record {
+    logged = logged;
+    each = λ image may. all_of name log (length log) image (omega arith) (subst (λ (f : Folder). Stands f (stored log)) (sym (same_files name image may)) stands);
+    empty = λ no image may. no_parts (folder name image) (closed_files name (unlisted name no) image may);
+  }
+
+  pub crashed_in_order : (name : List ℕ) (log : List Item) (least : ℕ) → IsLog log → HasPrefix name log least v.reading → IsInOrderFor name v log least
+  crashed_in_order name log least logged p = record {
+    count = p.count;
+    enough = p.enough;
+    within = p.within;
+    in_order = subst (IsInOrder name v (take p.count log)) (omega (arith, length-take p.count log, p.within)) (settled_in_order name (take p.count log) (logged_front p.count log logged) p.is);
+  }

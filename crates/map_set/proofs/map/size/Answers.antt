@@ -1,0 +1,9 @@
+use Rattle.std.proofs.Common.{ap, sym, subst, ◌∙◌}
+use Rattle.log_model.specs.plain.Rows.{count_reply}
+use Rattle.log_model.proofs.kinds.Tabled.{AreOf, map_size}
+use Rattle.map_set.proofs.map.size.Goals as goal
+
+pub returns : goal.returns
+returns c =
+    let x = c.args.table.now in
+    c.count.ensures ∙ ap count_reply (c.len.ensures ∙ sym (map_size x.instance x.cells c.in_order.ensures.rise (subst (λ k. AreOf k x.instance x.cells) c.requires c.in_order.ensures.own)))

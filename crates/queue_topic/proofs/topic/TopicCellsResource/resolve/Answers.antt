@@ -1,0 +1,12 @@
+use Rattle.std.proofs.Common.{[], subst}
+use Rattle.host_types.specs.declared.entry.Kind.TheVariants.{Topic}
+use Rattle.machine.specs.Answers.{Resolves}
+use Rattle.cell_table.specs.Seen.{Table}
+use Rattle.log_model.specs.plain.Rows.{topic_row}
+use Rattle.log_model.specs.kinds.Deciding.{chosen, call_of}
+use Rattle.log_model.specs.kinds.Reading.{listeners_in}
+use Rattle.queue_topic.proofs.topic.TopicCellsResource.resolve.Goals as goal
+
+pub returns : goal.returns
+returns c =
+    subst (λ (x : Table). Resolves (chosen Topic (topic_row (call_of [] x.instance c.args.session c.args._index) (listeners_in x.instance x.cells) c.args.op.now)) c.decide.result) c.self.view_is (c.decide.ensures c.args._index)
