@@ -4,8 +4,13 @@
 #![tactic(auto)]
 
 mod disk;
+mod locks;
 mod names;
+mod open;
 mod steps;
+mod trouble;
 
 pub use disk::FileDisk;
+pub use locks::Lockable;
 pub use names::files_are_of_one_log;
+pub use trouble::Trouble;

@@ -1,13 +1,15 @@
 // A runtime that counts what its files are asked to bring to the disk, and that can refuse it for a folder.
+use disk_files::Lockable;
 use std::alloc::{Alloc, Allocator};
 use std::cell::Cell;
 use std::fs::{Metadata, OpenFile, OpenOptions};
 use std::io::{self, ErrorKind, Read, Seek, SeekFrom, Write};
 use std::rt::Files;
 
-/// How often bytes and folders were synced, and whether syncs of folders fail.
+/// How often files were opened and bytes and folders were synced, and whether syncs of folders fail.
 #[derive(Drop)]
 pub struct Counts {
+    opened: Cell<u64>,
     bytes: Cell<u64>,
     folders: Cell<u64>,
     fails: Cell<bool>,
@@ -16,6 +18,7 @@ pub struct Counts {
 impl Counts {
     pub fn new() -> Counts {
         Counts {
+            opened: Cell::new(0),
             bytes: Cell::new(0),
             folders: Cell::new(0),
             fails: Cell::new(false),
@@ -24,6 +27,11 @@ impl Counts {
 
     pub fn fail(&self, fails: bool) {
         self.fails.set(fails);
+    }
+
+    /// How often a file was opened, so far.
+    pub fn opened(&self) -> u64 {
+        self.opened.get()
     }
 
     /// Syncs of bytes and of folders, so far.
@@ -60,6 +68,9 @@ impl<'a, R: Files> Files for CountedFiles<'a, R> {
 
     fn open_file(&self, how: &OpenOptions, path: &str) -> io::Result<CountedFile<'a, R::File>> {
         let file = self.rt.open_file(how, path)?;
+        self.counts
+            .opened
+            .set(self.counts.opened.get().saturating_add(1));
         Ok(CountedFile {
             file,
             counts: self.counts,
@@ -124,6 +135,9 @@ impl<F: Seek> Seek for CountedFile<'_, F> {
         self.file.seek(to)
     }
 }
+
+// Its files have no locks.
+impl<F> Lockable for CountedFile<'_, F> {}
 
 impl<F: OpenFile> OpenFile for CountedFile<'_, F> {
     fn metadata(&self) -> io::Result<Metadata> {

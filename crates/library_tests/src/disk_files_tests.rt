@@ -1,7 +1,7 @@
 // The disk on real files. Each test has a log's name of its own, and clears up.
 use crate::checks::{log_name, same};
 use crate::counted_files::{CountedFiles, Counts};
-use disk_files::FileDisk;
+use disk_files::{FileDisk, Lockable};
 use disk_model::{Disk, DiskFault, FileId};
 use host_types::LogName;
 use std::fs;
@@ -79,7 +79,10 @@ fn lists<D: Disk>(rt: &impl Abort, disk: &mut D, name: &LogName, wanted: &[FileI
 }
 
 /// The folder has its own files and others, and each of the others is left as it was.
-fn list_own<R: Files + AllocGlobal + Abort>(rt: &R) {
+fn list_own<R: Files + AllocGlobal + Abort>(rt: &R)
+where
+    R::File: Lockable,
+{
     write_all(rt, ODD, "kept");
     let mut disk = FileDisk::new(rt);
     lists(rt, &mut disk, &log_name(rt, b"list"), &[]);
@@ -103,7 +106,10 @@ fn lists_only_its_own_files(rt: HostRuntime) {
 const KEPT: &[&str] = &["kept-1-1.log", "kept-3-2.log"];
 
 /// Two files are made, and written to.
-fn write_two<R: Files + AllocGlobal>(rt: &impl Abort, disk: &mut FileDisk<'_, R>, name: &LogName) {
+fn write_two<R: Files + AllocGlobal>(rt: &impl Abort, disk: &mut FileDisk<'_, R>, name: &LogName)
+where
+    R::File: Lockable,
+{
     same(rt, disk.create(name, FIRST), Ok(()));
     same(rt, disk.create(name, FIRST), Err(DiskFault::Failed));
     same(rt, disk.create(name, SECOND), Ok(()));
@@ -115,7 +121,10 @@ fn write_two<R: Files + AllocGlobal>(rt: &impl Abort, disk: &mut FileDisk<'_, R>
 }
 
 /// They are read.
-fn read_two<R: Files + AllocGlobal>(rt: &impl Abort, disk: &mut FileDisk<'_, R>, name: &LogName) {
+fn read_two<R: Files + AllocGlobal>(rt: &impl Abort, disk: &mut FileDisk<'_, R>, name: &LogName)
+where
+    R::File: Lockable,
+{
     same(rt, disk.length(name, FIRST), Ok(6));
     let mut buffer = [0u8; 8];
     same(rt, disk.read(name, FIRST, 1, &mut buffer), Ok(5));
@@ -123,7 +132,10 @@ fn read_two<R: Files + AllocGlobal>(rt: &impl Abort, disk: &mut FileDisk<'_, R>,
     same(rt, disk.read(name, FIRST, 6, &mut buffer), Ok(0));
 }
 
-fn keep<R: Files + AllocGlobal + Abort>(rt: &R) {
+fn keep<R: Files + AllocGlobal + Abort>(rt: &R)
+where
+    R::File: Lockable,
+{
     let name = log_name(rt, b"kept");
     let mut disk = FileDisk::new(rt);
     write_two(rt, &mut disk, &name);
@@ -142,7 +154,10 @@ fn keeps_what_is_written(rt: HostRuntime) {
 const GONE: &[&str] = &["gone-1-1.log"];
 
 /// A file is made, removed and made anew.
-fn make_anew<R: Files + AllocGlobal>(rt: &impl Abort, disk: &mut FileDisk<'_, R>, name: &LogName) {
+fn make_anew<R: Files + AllocGlobal>(rt: &impl Abort, disk: &mut FileDisk<'_, R>, name: &LogName)
+where
+    R::File: Lockable,
+{
     same(rt, disk.create(name, FIRST), Ok(()));
     same(rt, disk.write_at(name, FIRST, 0, b"old"), Ok(()));
     same(rt, disk.remove(name, FIRST), Ok(()));
@@ -152,7 +167,10 @@ fn make_anew<R: Files + AllocGlobal>(rt: &impl Abort, disk: &mut FileDisk<'_, R>
     same(rt, disk.create(name, FIRST), Ok(()));
 }
 
-fn forget<R: Files + AllocGlobal + Abort>(rt: &R) {
+fn forget<R: Files + AllocGlobal + Abort>(rt: &R)
+where
+    R::File: Lockable,
+{
     let name = log_name(rt, b"gone");
     let mut disk = FileDisk::new(rt);
     make_anew(rt, &mut disk, &name);
@@ -177,14 +195,20 @@ fn syncs<R: Files + AllocGlobal>(
     disk: &mut FileDisk<'_, R>,
     counts: &Counts,
     wanted: (Result<(), DiskFault>, (u64, u64)),
-) {
+)
+where
+    R::File: Lockable,
+{
     let name = log_name(rt, b"synced");
     same(rt, disk.sync(&name, FIRST), wanted.0);
     same(rt, counts.told(), wanted.1);
 }
 
 /// Files are written, created and removed, with a sync of the first after each.
-fn settle<R: Files + AllocGlobal>(rt: &impl Abort, disk: &mut FileDisk<'_, R>, counts: &Counts) {
+fn settle<R: Files + AllocGlobal>(rt: &impl Abort, disk: &mut FileDisk<'_, R>, counts: &Counts)
+where
+    R::File: Lockable,
+{
     let name = log_name(rt, b"synced");
     same(rt, disk.create(&name, FIRST), Ok(()));
     syncs(rt, disk, counts, (Ok(()), (1, 1)));
@@ -196,22 +220,27 @@ fn settle<R: Files + AllocGlobal>(rt: &impl Abort, disk: &mut FileDisk<'_, R>, c
     syncs(rt, disk, counts, (Ok(()), (4, 3)));
 }
 
-/// A folder whose sync failed is synced again, though nothing was created since.
-fn settle_again<R: Files + AllocGlobal>(
+/// After a sync that failed none is answered `Ok`, and the system isn't asked.
+fn settle_no_more<R: Files + AllocGlobal>(
     rt: &impl Abort,
     disk: &mut FileDisk<'_, R>,
     counts: &Counts,
-) {
+)
+where
+    R::File: Lockable,
+{
     let name = log_name(rt, b"synced");
     same(rt, disk.create(&name, SECOND), Ok(()));
     counts.fail(true);
     syncs(rt, disk, counts, (Err(DiskFault::Failed), (5, 3)));
     counts.fail(false);
-    syncs(rt, disk, counts, (Ok(()), (6, 4)));
-    syncs(rt, disk, counts, (Ok(()), (7, 4)));
+    syncs(rt, disk, counts, (Err(DiskFault::Failed), (5, 3)));
 }
 
-fn count_syncs<R: Files + AllocGlobal + Abort>(rt: &R) {
+fn count_syncs<R: Files + AllocGlobal + Abort>(rt: &R)
+where
+    R::File: Lockable,
+{
     let counts = Counts::new();
     let counted = CountedFiles {
         rt,
@@ -219,7 +248,7 @@ fn count_syncs<R: Files + AllocGlobal + Abort>(rt: &R) {
     };
     let mut disk = FileDisk::new(&counted);
     settle(rt, &mut disk, &counts);
-    settle_again(rt, &mut disk, &counts);
+    settle_no_more(rt, &mut disk, &counts);
     drop(disk);
 }
 
@@ -228,4 +257,44 @@ fn syncs_the_folder_where_it_changed(rt: HostRuntime) {
     clear(&rt, SYNCED);
     count_syncs(&rt);
     clear(&rt, SYNCED);
+}
+
+const TURNS: &[&str] = &["turns-1-1.log", "turns-3-2.log"];
+
+/// One file is written and another is read, in turns. Both stay open.
+fn take_turns<R: Files + AllocGlobal>(rt: &impl Abort, disk: &mut FileDisk<'_, R>)
+where
+    R::File: Lockable,
+{
+    let name = log_name(rt, b"turns");
+    let mut buffer = [0u8; 1];
+    same(rt, disk.create(&name, FIRST), Ok(()));
+    same(rt, disk.create(&name, SECOND), Ok(()));
+    for _ in 0..4 {
+        same(rt, disk.read(&name, FIRST, 0, &mut buffer), Ok(0));
+        same(rt, disk.write_at(&name, SECOND, 0, b"x"), Ok(()));
+    }
+}
+
+/// Two files are made and a lock is taken, with an opening each; and the one that is read is opened again.
+fn count_openings<R: Files + AllocGlobal + Abort>(rt: &R)
+where
+    R::File: Lockable,
+{
+    let counts = Counts::new();
+    let counted = CountedFiles {
+        rt,
+        counts: &counts,
+    };
+    let mut disk = FileDisk::new(&counted);
+    take_turns(rt, &mut disk);
+    drop(disk);
+    same(rt, counts.opened(), 4);
+}
+
+#[test]
+fn keeps_two_files_open(rt: HostRuntime) {
+    clear(&rt, TURNS);
+    count_openings(&rt);
+    clear(&rt, TURNS);
 }

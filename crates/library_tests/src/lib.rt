@@ -12,6 +12,8 @@ mod counted_files;
 #[cfg(test)]
 mod disk_files_tests;
 #[cfg(test)]
+mod disk_locks_tests;
+#[cfg(test)]
 mod disk_memory_tests;
 #[cfg(test)]
 mod event_batches_tests;

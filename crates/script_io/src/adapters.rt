@@ -2,7 +2,7 @@
 // contract can say: with the memory forms tested beside them, these two are the trusted edge.
 ghost use Rattle.std.specs.Prelude.{◌≡◌, ◌<◌, ◌≤◌, ℕ, List, Some, length, take, IfOk, OnOk, OnErr, false, true};
 ghost use Rattle.std.specs.Io.KnownBytes.{Appends, Consumes, IsAtEnd, Keeps};
-ghost use Rattle.script_io.specs.Streams.{HasCause};
+ghost use Rattle.script_io.specs.Streams.{HasCause, Rose};
 
 use crate::sink::Sink;
 use crate::source::{Failed, Source};
@@ -15,6 +15,7 @@ use std::io::{self, ErrorKind, Read, Write};
 pub struct ReadSource<R> {
     reader: R,
     faults: u64,
+    error: Option<io::Error>,
 }
 
 /// One read, done again where a signal interrupts it.
@@ -62,7 +63,16 @@ impl<R: Read> ReadSource<R> {
         ensures left { ⟦<ReadSource<R> as Source>⟧.left result ≡ R.remaining reader }
         ensures faults { ⟦<ReadSource<R> as Source>⟧.faults result ≡ 0 }
     {
-        ReadSource { reader, faults: 0 }
+        ReadSource {
+            reader,
+            faults: 0,
+            error: None,
+        }
+    }
+
+    /// Why the last read that failed did.
+    pub fn error(&self) -> Option<io::Error> {
+        self.error
     }
 }
 
@@ -74,8 +84,9 @@ impl<R: Read> Source for ReadSource<R> {
     fn read(&mut self, buffer: &mut [u8]) -> Result<usize, Failed> {
         match read_again(&mut self.reader, buffer) {
             Ok(n) => Ok(n),
-            Err(_) => {
+            Err(error) => {
                 self.faults = self.faults.saturating_add(1);
+                self.error = Some(error);
                 Err(Failed)
             }
         }
@@ -97,6 +108,7 @@ pub struct WriteSink<W> {
     writer: W,
     is_held: bool,
     faults: u64,
+    error: Option<io::Error>,
 }
 
 impl<W: Write> WriteSink<W> {
@@ -109,7 +121,13 @@ impl<W: Write> WriteSink<W> {
             writer,
             is_held: false,
             faults: 0,
+            error: None,
         }
+    }
+
+    /// Why the last write or flush that failed did.
+    pub fn error(&self) -> Option<io::Error> {
+        self.error
     }
 
     /// Flushes the writer where its last flush failed. Nothing more is written by it. After `Ok`
@@ -126,6 +144,17 @@ impl<W: Write> WriteSink<W> {
         self.send()
     }
 
+    /// Counts a fault, and keeps why.
+    fn fail(&mut self, error: io::Error) -> Failed
+        ensures counted { Rose self.old.faults self.new.faults }
+        ensures later { self.old.faults ≤ self.new.faults }
+        ensures kept { (self.new.writer ≡ self.old.writer) × (self.new.is_held ≡ self.old.is_held) }
+    {
+        self.faults = self.faults.saturating_add(1);
+        self.error = Some(error);
+        Failed
+    }
+
     /// Flushes the writer.
     fn send(&mut self) -> Result<(), Failed>
         ensures sent { OnOk result (self.new.is_held ≡ false) }
@@ -138,10 +167,9 @@ impl<W: Write> WriteSink<W> {
                 self.is_held = false;
                 Ok(())
             }
-            Err(_) => {
+            Err(error) => {
                 self.is_held = true;
-                self.faults = self.faults.saturating_add(1);
-                Err(Failed)
+                Err(self.fail(error))
             }
         }
     }
@@ -159,10 +187,8 @@ impl<W: Write> Sink for WriteSink<W> {
                 let _ = self.send();
                 Ok(n)
             }
-            _ => {
-                self.faults = self.faults.saturating_add(1);
-                Err(Failed)
-            }
+            Ok(_) => Err(self.fail(io::Error::from(ErrorKind::WriteZero))),
+            Err(error) => Err(self.fail(error)),
         }
     }
 }
