@@ -10,5 +10,4 @@ pub mod Progress
 pub mod ReadingLemmas
 pub mod ReportLemmas
 pub mod RunLemmas
-pub mod StoredBuilt
 pub mod TurnLemmas

@@ -10,7 +10,6 @@ ghost use Rattle.copycat_tool.specs.Words.{asks, asked_of};
 ghost use Rattle.copycat_tool.specs.Runs.{Closes, IsInOrder};
 ghost use Rattle.copycat_tool.specs.Programs.{IsStatus, RunsInOrder, TellsDamage, TellsUnopened, usage_line};
 
-use crate::catalog::catalog_suits;
 use crate::closing::{Status, put_last, run_script};
 use crate::unopened::close_unopened;
 use crate::words::{USAGE, read_words};
@@ -49,7 +48,6 @@ fn run_log<I: Source, D: Disk, O: Sink>(
     ensures no_usage { result.0.0 ≡ 2 → ⊥ }
     ensures statuses { IsStatus result.0.0 }
 {
-    catalog_suits();
     logs_of_catalogs_are_plain();
     match Host::open(alloc, disk, Catalog::new(alloc), name, size) {
         Ok(mut host) => {
