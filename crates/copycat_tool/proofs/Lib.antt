@@ -13,6 +13,5 @@ pub mod Progress
 pub mod ReadingLemmas
 pub mod ReportLemmas
 pub mod RunLemmas
-pub mod StoredBuilt
 pub mod TurnLemmas
 pub mod Writing

@@ -3,7 +3,6 @@
 
 mod answers;
 mod calls;
-mod catalog;
 mod closing;
 mod ending;
 mod folders;

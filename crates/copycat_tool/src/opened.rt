@@ -4,7 +4,6 @@ ghost use Rattle.log_model.specs.plain.Admission.{Item};
 ghost use Rattle.copycat_tool.specs.Runs.{IsInOrder};
 ghost use Rattle.copycat_tool.specs.Opened.{OpensPlain};
 
-use crate::catalog::catalog_suits;
 use disk_model::Disk;
 use host_recovery::Host;
 use host_types::LogName;
@@ -25,7 +24,6 @@ pub fn open_log<D: Disk>(
     requires most { segment ≤ 65536 }
     ensures { IsTrue D.tells → (log : List Item) (least : ℕ) → IsInOrder name.now (D.view disk) log least → IfOk result (OpensPlain D.view name.now (D.view disk) log least) }
 {
-    catalog_suits();
     logs_of_catalogs_are_plain();
     match Host::open(alloc, disk, Catalog::new(alloc), name, segment) {
         Ok(host) => {

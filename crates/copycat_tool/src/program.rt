@@ -11,7 +11,6 @@ ghost use Rattle.copycat_tool.specs.Words.{asks, asked_of};
 ghost use Rattle.copycat_tool.specs.Runs.{Closes, IsInOrder, Wrote};
 ghost use Rattle.copycat_tool.specs.Programs.{IsStatus, RunsInOrder, StaysDamaged, usage_line};
 
-use crate::catalog::catalog_suits;
 use crate::closing::{Status, close_run, put_last, run_script};
 use crate::ending::Ending;
 use crate::words::{USAGE, read_words};
@@ -43,7 +42,6 @@ fn run_log<I: Source, D: Disk, O: Sink>(
     ensures causes { HasCauses (Rose (I.faults script.old) (I.faults script.new)) (Rose (O.faults out.old) (O.faults out.new)) (D.faults disk < D.faults result.1) result.0.0 }
     ensures front { (bytes : List ℕ) → I.left script.old ≡ Some bytes → IsFrontOf bytes (I.left script.new) }
 {
-    catalog_suits();
     logs_of_catalogs_are_plain();
     match Host::open(alloc, disk, Catalog::new(alloc), name, size) {
         Ok(mut host) => {

@@ -1,15 +1,11 @@
 -- A host that stands at a log, and an item more.
-use Rattle.std.proofs.Common.{◌≡◌, inl, inr, ⊎_elim, ℕ, ◌+◌, ◌≤◌, ◌<◌, nat_le, nat_lt, Bool, cond, Some, arith, true, false, IsTrue, Ok, List, [], ◌∷◌, ◌++◌, refl, sym, ap, subst, ◌∙◌}
+use Rattle.std.proofs.Common.{◌≡◌, inl, inr, ⊎_elim, ℕ, ◌+◌, ◌≤◌, ◌<◌, nat_le, nat_lt, Bool, cond, Some, arith, false, IsTrue, Ok, List, [], ◌∷◌, ◌++◌, refl, sym, ap, subst, ◌∙◌}
 use Rattle.std.proofs.lemmas.Bool.{and_from}
 use Rattle.std.proofs.lemmas.Bool.Decides.{nat_tests}
 use Rattle.host_types.specs.Cells.{Cells}
-use Rattle.host_types.specs.Decision.{Choice, Decides, Declines, MachineDecision, MachineIsLawful}
+use Rattle.host_types.specs.Decision.{MachineDecision, MachineIsLawful}
 use Rattle.host_types.specs.Ranges.{EntryFits, IsInRange}
-use Rattle.host_types.specs.declared.entry.Ask.{Ask}
-use Rattle.host_types.specs.declared.entry.Ask.TheVariants as asks
 use Rattle.host_types.specs.declared.entry.Body.{Body}
-use Rattle.host_types.specs.declared.entry.Effect.{Effect}
-use Rattle.host_types.specs.declared.entry.Reply.{Reply}
 use Rattle.host_types.specs.declared.entry.Body.TheVariants as bodies
 use Rattle.host_types.specs.declared.entry.Entry.{Entry}
 use Rattle.host_types.specs.declared.entry.Refusal.{Refusal}
@@ -20,21 +16,20 @@ use Rattle.disk_model.specs.Image.{Image}
 use Rattle.disk_model.specs.View.{View, IsSound as IsDiskSound, LeavesOnly, MayLeave}
 use Rattle.disk_model.proofs.Moments.{started, weaker}
 use Rattle.host_types.specs.declared.entry.Offer.{Offer}
-use Rattle.segment_files.specs.Parse.{is_built, is_built_effect}
 use Rattle.segment_files.specs.Folder.{folder, Stands}
 use Rattle.segment_set.specs.declared.parts.Parts.{Parts}
 use Rattle.segment_set.specs.Fits.{Fits, IsHeld, StandsOrGains as FilesStandOrGain}
 use Rattle.log_model.specs.plain.Admission.{Item, Expired, Expiry, Expires, Nobody, Not_now, Offered, due_in, expires_due, Admission, Admitted, Repeats, Refused, first_refusal}
 use Rattle.log_model.specs.plain.Fitting.{ItemFits, ItemsFit}
-use Rattle.log_model.specs.hosted.Hosted.{Hosted, choice_body, hosted_choice, hosted_command, machine_cells, hosted_admits, hosted_expires, hosted_entry, hosted_folded, hosted_stored, hosted_told, is_hosted_admitted, is_hosted_log}
+use Rattle.log_model.specs.hosted.Hosted.{Hosted, hosted_admits, hosted_expires, hosted_entry, hosted_folded, hosted_stored, hosted_told, is_hosted_admitted, is_hosted_log}
 use Rattle.log_model.specs.replay.Replay.{replay_entry}
 use Rattle.log_model.specs.hosted.Sound.{IsSound}
-use Rattle.log_model.specs.plain.Stored.{body_of, is_admission, is_expiry_of}
+use Rattle.log_model.specs.plain.Stored.{is_admission, is_expiry_of}
 use Rattle.log_model.proofs.hosted.HostedLogs.{grown}
 use Rattle.log_model.proofs.hosted.OfMachines.{admitted_in_range, logs_sound, step_is_replay}
 use Rattle.host_core.specs.Seen.{hosted}
 use Rattle.host_recovery.specs.Seen.{Seen}
-use Rattle.host_recovery.specs.Standing.{StandsAt, StoresBuilt, StandsFor, StandsOrExpires, StandsOrGains, StandsOrTakes, log_in}
+use Rattle.host_recovery.specs.Standing.{StandsAt, StandsFor, StandsOrExpires, StandsOrGains, StandsOrTakes, log_in}
 use Rattle.host_recovery.specs.Answers.{OnAnswer, admits_file, admits_stored, answer_of, expiry_stored, if_filed}
 use Rattle.host_recovery.specs.declared.answers.Answer.{Answer}
 use Rattle.host_recovery.proofs.Files.{stands_now}
@@ -117,30 +112,11 @@ expires_by e parts session is files = ap (λ (x : Expiry). expiry_stored x parts
 pub by_files : (a b : Admission) (parts : Parts) → a ≡ Admitted → admits_file parts ≡ b → admits_stored a parts ≡ b
 by_files a b parts is files = ap (λ (x : Admission). admits_stored x parts) is ∙ ap (λ (x : Admission). first_refusal (x ∷ [])) files ∙ alone b
 
--- ---- what is admitted is in range, and of a kind that is stored
+-- ---- what is admitted is in range
 
 pub item_in_range : (d : MachineDecision) (s : Hosted) (item : Item) (entry : Entry) → MachineIsLawful d → IsSound s → ItemFits item → IsTrue (is_hosted_admitted d s item) → entry ≡ hosted_entry d s item
     → EntryFits entry × IsInRange (s.last + 1) entry
 item_in_range d s item entry lawful sound fit ok is = subst (λ (e : Entry). EntryFits e × IsInRange (s.last + 1) e) (sym is) (admitted_in_range d s item lawful sound fit ok)
-
-choice_is_built : (session seq : ℕ) (c : Choice) → ((effect : Effect) (reply : Reply) → c ≡ Decides effect reply → is_built_effect effect ≡ true) → is_built (choice_body session seq c) ≡ true
-choice_is_built session seq (Decides effect reply) built = built effect reply refl
-choice_is_built session seq (Declines why) built = refl
-
-ask_is_built : (d : MachineDecision) (s : Hosted) (ask : Ask) → StoresBuilt d → is_built (body_of (hosted_command d s) ask) ≡ true
-ask_is_built d s (asks.Register timeout) built = refl
-ask_is_built d s (asks.Alive session seq event) built = refl
-ask_is_built d s (asks.Unregister session) built = refl
-ask_is_built d s asks.Tick built = refl
-ask_is_built d s (asks.Command session seq name op) built =
-    choice_is_built session seq (hosted_choice d s session name op) (λ effect reply is. built (machine_cells s.cells) name op session (s.last + 1) effect reply is)
-
-stored_is_built : (d : MachineDecision) (s : Hosted) (item : Item) → StoresBuilt d → is_built (hosted_entry d s item).body ≡ true
-stored_is_built d s (Offered o) built = ask_is_built d s o.ask built
-stored_is_built d s (Expired time session) built = refl
-
-pub item_is_built : (d : MachineDecision) (s : Hosted) (item : Item) (entry : Entry) → StoresBuilt d → entry ≡ hosted_entry d s item → is_built entry.body ≡ true
-item_is_built d s item entry built is = ap (λ (e : Entry). is_built e.body) is ∙ stored_is_built d s item built
 
 -- an offer that is admitted
 pub offer_admitted : (d : MachineDecision) (s : Hosted) (o : Offer) → hosted_admits d s o ≡ Admitted → IsTrue (is_hosted_admitted d s (Offered o))

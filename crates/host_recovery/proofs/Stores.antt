@@ -1,10 +1,9 @@
 -- What an entry that is stored leaves of a host's files, and what a crash leaves on the way.
-use Rattle.std.proofs.Common.{◌≡◌, ℕ, ◌+◌, true, List, [], ◌∷◌, inl, subst, ◌∙◌, ap}
+use Rattle.std.proofs.Common.{◌≡◌, ℕ, ◌+◌, List, [], ◌∷◌, inl, subst, ◌∙◌, ap}
 use Rattle.host_types.specs.declared.entry.Entry.{Entry}
 use Rattle.host_types.specs.Ranges.{EntryFits, IsInRange}
 use Rattle.disk_model.specs.View.{View, IsSound, LeavesOnly}
 use Rattle.disk_model.proofs.Moments.{started}
-use Rattle.segment_files.specs.Parse.{is_built}
 use Rattle.segment_files.specs.Contents.{shut_frame_bytes}
 use Rattle.segment_set.specs.declared.parts.Parts.{Parts}
 use Rattle.segment_set.specs.Fits.{Fits, IsEmptyWhereNone, IsFrameFor, IsHeld, StandsOrGains}
@@ -13,9 +12,8 @@ use Rattle.host_recovery.specs.Standing.{log_in}
 use Rattle.host_recovery.proofs.Files.{stands_now}
 
 -- the frame is one for the entry behind the last
-pub frame_for : (last index : ℕ) (frame : List ℕ) (entry : Entry) → index ≡ last → is_built entry.body ≡ true → IsInRange (index + 1) entry → EntryFits entry → frame ≡ shut_frame_bytes ((index + 1, entry) ∷ []) → IsFrameFor last frame entry
-frame_for last index frame entry is built range fits bytes = record {
-  built = built;
+pub frame_for : (last index : ℕ) (frame : List ℕ) (entry : Entry) → index ≡ last → IsInRange (index + 1) entry → EntryFits entry → frame ≡ shut_frame_bytes ((index + 1, entry) ∷ []) → IsFrameFor last frame entry
+frame_for last index frame entry is range fits bytes = record {
   range = subst (λ (n : ℕ). IsInRange (n + 1) entry) is range;
   fits = fits;
   bytes = bytes ∙ ap (λ (n : ℕ). shut_frame_bytes ((n + 1, entry) ∷ [])) is;

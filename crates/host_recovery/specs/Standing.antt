@@ -1,14 +1,11 @@
 -- The log that a host stands at, and what its files are.
-use Rattle.std.specs.Prelude.{◌≡◌, ◌≤◌, ◌⊎◌, ℕ, Bool, true, false, List, [], ◌∷◌, ◌++◌, map, IsTrue}
+use Rattle.std.specs.Prelude.{◌≡◌, ◌≤◌, ◌⊎◌, ℕ, Bool, false, List, [], ◌∷◌, ◌++◌, map, IsTrue}
 use Rattle.host_types.specs.declared.entry.Entry.{Entry}
 use Rattle.host_types.specs.Cells.{Cells}
-use Rattle.host_types.specs.Decision.{Decides, MachineDecision}
-use Rattle.host_types.specs.declared.entry.Effect.{Effect}
-use Rattle.host_types.specs.declared.entry.Op.{Op}
-use Rattle.host_types.specs.declared.entry.Reply.{Reply}
+use Rattle.host_types.specs.Decision.{MachineDecision}
 use Rattle.disk_model.specs.Image.{Image}
 use Rattle.disk_model.specs.View.{View}
-use Rattle.segment_files.specs.Parse.{Part, is_built_effect}
+use Rattle.segment_files.specs.Parse.{Part}
 use Rattle.segment_files.specs.Folder.{folder, Stands}
 use Rattle.segment_set.specs.declared.parts.Parts.{Parts}
 use Rattle.segment_set.specs.Fits.{Fits, IsHeld, last_of, log_of, parts_in}
@@ -64,19 +61,11 @@ pub record StandsAt {D M : Type 0} (d : MachineDecision) (view : D → View) (ce
   pub held : IsHeld (view h.disk) h.parts.name h.parts.tail
   pub state : hosted cells h.core ≡ hosted_folded d items
 
--- whatever the machine decides, files may hold its effect today
-abbrev pub StoresBuilt : MachineDecision → Type 0
-StoresBuilt d =
-    (cells : Cells) (name : List ℕ) (op : Op) (session index : ℕ) (effect : Effect) (reply : Reply)
-    → d.resolve cells name op session index ≡ Decides effect reply
-    → is_built_effect effect ≡ true
-
 -- ---- what a host keeps
 
 -- Where it runs, the disk fits what is remembered of the files, which have as many entries as the core took.
-pub record IsKept {D M : Type 0} (tells : Bool) (view : D → View) (cells : M → Cells) (d : MachineDecision) (h : Seen D M) : Type 0 where
+pub record IsKept {D M : Type 0} (tells : Bool) (view : D → View) (cells : M → Cells) (h : Seen D M) : Type 0 where
   pub size_first : 2 ≤ h.size
   pub size_last : h.size ≤ 65536
-  pub built : StoresBuilt d
   pub last : h.stopped ≡ false → h.core.last ≡ last_of h.parts.tail
   pub fits : h.stopped ≡ false → IsTrue tells → Fits (view h.disk) h.parts.name h.parts.tail h.parts.greatest

@@ -38,7 +38,7 @@ impl<D: Disk, M: Machine> Model for Host<D, M> {
 
     ghost view = { λ h. record { disk = h.disk; parts = h.parts; core = h.core; size = h.size; stopped = h.stopped } };
 
-    ghost invariant = { λ h. IsKept D.tells D.view M.cells M.decides (record { disk = h.disk; parts = h.parts; core = h.core; size = h.size; stopped = h.stopped }) };
+    ghost invariant = { λ h. IsKept D.tells D.view M.cells (record { disk = h.disk; parts = h.parts; core = h.core; size = h.size; stopped = h.stopped }) };
 }
 
 impl<D: Disk, M: Machine> Host<D, M> {

@@ -14,7 +14,7 @@ ghost use Rattle.log_model.specs.hosted.Hosted.{hosted_nothing, hosted_told};
 ghost use Rattle.log_model.specs.cleaning.Layout.{alone};
 ghost use Rattle.log_model.specs.replay.Replay.{replay_from, replayed};
 ghost use Rattle.host_core.specs.Seen.{hosted};
-ghost use Rattle.host_recovery.specs.Standing.{StandsAt, StandsFor, StoresBuilt, layout_in};
+ghost use Rattle.host_recovery.specs.Standing.{StandsAt, StandsFor, layout_in};
 ghost use Rattle.host_recovery.specs.Lying.{Lies};
 ghost use Rattle.host_recovery.specs.Opening.{HasPrefix, IsInOrder, OpensAt, disk_behind, went};
 
@@ -92,7 +92,6 @@ impl<D: Disk, M: Machine> Host<D, M> {
         segment: u32,
     ) -> Result<Host<D, M>, (D, OpenError)>
         requires none { M.cells machine ≡ [] }
-        requires built { StoresBuilt M.decides }
         requires least { 2 ≤ segment }
         requires most { segment ≤ 65536 }
         ensures name { IfOk result (λ h. (h.parts.name ≡ name.now) × (h.size ≡ segment) × (h.stopped ≡ false)) }

@@ -3,7 +3,6 @@ ghost use Rattle.std.specs.Prelude.{◌≡◌, ◌<◌, ◌+◌, ◌⊎◌, ℕ,
 ghost use Rattle.host_types.specs.Limits.{index_limit, last_limit};
 ghost use Rattle.host_types.specs.Ranges.{EntryFits, IsInRange};
 ghost use Rattle.disk_model.specs.View.{LeavesOnly};
-ghost use Rattle.segment_files.specs.Parse.{is_built};
 ghost use Rattle.segment_files.specs.Contents.{shut_frame_bytes};
 ghost use Rattle.segment_set.specs.Fits.{IsEmptyWhereNone, IsHeld, KeepsNames, StandsOrGains as FilesStandOrGain, last_of};
 ghost use Rattle.log_model.specs.plain.Admission.{Admitted, Item, Offered, Expired};
@@ -100,7 +99,6 @@ impl<D: Disk, M: Machine> Host<D, M> {
         requires file { admits_file self.old.parts ≡ Admitted }
         requires fits { EntryFits entry }
         requires range { IsInRange ((hosted M.cells self.old.core).last + 1) entry }
-        requires built { is_built entry.body ≡ true }
         ensures runs { OnOk result (self.new.stopped ≡ false) }
         ensures state { OnOk result (hosted M.cells self.new.core ≡ replay_entry (hosted_told M.decides) 0 (hosted M.cells self.old.core) ((hosted M.cells self.old.core).last + 1, entry)) }
         ensures log { OnOk result (IsTrue D.tells → log_in (D.view self.new.disk) self.new.parts ≡ log_in (D.view self.old.disk) self.old.parts ++ entry ∷ []) }

@@ -1,8 +1,6 @@
 // A host over a disk in memory and the catalog: each of its calls is made.
 ghost use Rattle.std.specs.Prelude.{◌≡◌, true};
 ghost use Rattle.host_types.specs.Decision.{is_looking};
-ghost use Rattle.host_recovery.specs.Standing.{StoresBuilt};
-ghost use Rattle.resource_catalog.specs.Catalog.{catalog_decision};
 
 use crate::same;
 use disk_memory::MemoryDisk;
@@ -13,11 +11,6 @@ use std::alloc::Global;
 use std::process::Abort;
 
 type TestHost = Host<MemoryDisk, Catalog>;
-
-/// The catalog can be hosted: files may hold what it decides.
-fn catalog_suits()
-    ensures { StoresBuilt catalog_decision }
-{}
 
 fn key(rt: &impl Abort, alloc: Global, text: &[u8]) -> Key {
     Key::new(alloc, text).expect(rt, "a key")
@@ -78,7 +71,6 @@ fn expires(
 }
 
 fn reopens(rt: &impl Abort, alloc: Global, host: &mut TestHost) {
-    catalog_suits();
     assert!(rt; host.reopen(alloc, Catalog::new(alloc)).is_ok());
 }
 
@@ -175,7 +167,6 @@ fn opened(rt: &impl Abort, alloc: Global, failing: u64) -> TestHost {
     let name = LogName::new(b"db").expect(rt, "a name");
     let mut disk = MemoryDisk::new(alloc);
     disk.fail(failing).expect(rt, "memory");
-    catalog_suits();
     match Host::open(alloc, disk, Catalog::new(alloc), &name, 1024) {
         Ok(host) => host,
         Err(given) => {

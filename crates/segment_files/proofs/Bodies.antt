@@ -1,5 +1,5 @@
 -- How the entries of a frame's body are read, one after the other.
-use Rattle.std.proofs.Common.{◌≡◌, ℕ, zero, suc, ◌+◌, ◌-◌, ◌<◌, ◌≤◌, Bool, true, false, ◌&&◌, nat_eq, nat_le, List, [], ◌∷◌, ◌++◌, length, take, drop, Option, Some, None, refl, sym, ap, subst, ◌∙◌, arith, rules, if◌then◌else◌, append_assoc, length-append, length-take, length-drop}
+use Rattle.std.proofs.Common.{◌≡◌, ℕ, zero, suc, ◌+◌, ◌-◌, ◌<◌, ◌≤◌, Bool, true, false, nat_eq, nat_le, List, [], ◌∷◌, ◌++◌, length, take, drop, Option, Some, None, refl, sym, ap, subst, ◌∙◌, arith, rules, if◌then◌else◌, append_assoc, length-append, length-take, length-drop}
 use Rattle.std.proofs.lemmas.List.{append-nil, drop-drop, drop_all, take_all}
 use Rattle.std.proofs.lemmas.Bool.{and_parts, eqb-true, leb-true}
 use Rattle.host_types.specs.Limits.{last_limit}
@@ -7,7 +7,7 @@ use Rattle.host_types.specs.declared.entry.Entry.{Entry}
 use Rattle.entry_codec.specs.Spelled.{IsSpelledBy, number_spelled, body_spelled, spelled}
 use Rattle.std.specs.Int.{w64, to_be_bytes}
 use Rattle.entry_codec.specs.Reading.{Spelling, Spells, Spoils, spelling}
-use Rattle.segment_files.specs.Parse.{Numbered, Body, Holds, Breaks, Follows, with_entry, first_of, body, frame_room, is_built, is_next}
+use Rattle.segment_files.specs.Parse.{Numbered, Body, Holds, Breaks, Follows, with_entry, first_of, body, frame_room, is_next}
 use Rattle.segment_files.specs.Contents.{IsBroken, ReadsBody, ReadsNext}
 
 -- entries ahead of a body, and how many bytes they take
@@ -160,8 +160,8 @@ module _ (bytes : List ℕ) (before count at : ℕ) (old new : Numbered) (passed
   -- the entry that follows keeps the log within its limit
   pub next_low : (next : Numbered) (size : ℕ) → ReadsNext rest (before + count) new next (Some size) → before + count + 1 ≤ last_limit
   next_low next size (entry, spells, fit, items, some, short) =
-      let parts = and_parts (nat_eq (before + count + 1) (before + count + 1)) (nat_le (before + count + 1) last_limit && is_built entry.body) fit in
-      leb-true (before + count + 1) last_limit (and_parts (nat_le (before + count + 1) last_limit) (is_built entry.body) parts.1).0
+      let parts = and_parts (nat_eq (before + count + 1) (before + count + 1)) (nat_le (before + count + 1) last_limit) fit in
+      leb-true (before + count + 1) last_limit parts.1
 
   -- to its end
   pub holds_all : length bytes ≤ at → ReadsBody bytes before old new true
@@ -190,7 +190,7 @@ module _ (bytes : List ℕ) (before : ℕ) (old next : Numbered) where
 
     pub fit_next : is_next before index entry ≡ true → next ≡ old ++ (index, entry) ∷ [] → 1 ≤ size → size ≤ length bytes → ReadsNext bytes before old next (Some size)
     fit_next fit items some short =
-        let parts = and_parts (nat_eq index (before + 1)) (nat_le index last_limit && is_built entry.body) fit in
+        let parts = and_parts (nat_eq index (before + 1)) (nat_le index last_limit) fit in
         let is : index ≡ before + 1 = eqb-true index (before + 1) parts.0 in (
           entry,
           subst (λ (k : ℕ). spelling bytes ≡ Spells k entry size) is spells,

@@ -2,7 +2,9 @@
 use Rattle.std.proofs.Common.{◌≡◌, ℕ, false, List, [], ◌∷◌, ◌++◌, take, drop, refl}
 use Rattle.disk_model.specs.declared.file_id.FileId.{FileId}
 use Rattle.host_types.specs.declared.entry.Entry.{Entry}
-use Rattle.host_types.specs.declared.entry.Body.TheVariants.{Tick}
+use Rattle.host_types.specs.declared.entry.Body.TheVariants.{Command, Tick}
+use Rattle.host_types.specs.declared.entry.Effect.TheVariants.{Wipe}
+use Rattle.host_types.specs.declared.entry.Reply.TheVariants.{None as No_reply}
 use Rattle.entry_codec.specs.Reading.{spelling, entry_at, bounded_at, byte_at, body_at, body_behind, command_at, effect_at, effect_behind, reply_at, reply_behind}
 use Rattle.entry_codec.specs.Reading as reading
 use Rattle.segment_files.specs.Numbers.{number_at}
@@ -76,10 +78,11 @@ two_entries : parse id (head ++ (1 ∷ 0 ∷ 0 ∷ 0 ∷ 34 ∷ []) ++ tick 1 1 
 unfolding parse_open number_at spelling entry_at bounded_at reading.number_at byte_at body_at body_behind body frame appended_walk descriptor_fields
 two_entries = refl
 
--- an entry that isn't built yet: a command that wipes an instance
-unbuilt : parse id (head ++ (1 ∷ 0 ∷ 0 ∷ 0 ∷ 43 ∷ []) ++ eight 1 ++ eight 1 ++ (5 ∷ eight 1) ++ eight 1 ++ (5 ∷ eight 1) ++ (0 ∷ []) ++ (0 ∷ [])) ≡ Damaged 69
+-- a command that wipes an instance
+wiping : parse id (head ++ (1 ∷ 0 ∷ 0 ∷ 0 ∷ 43 ∷ []) ++ eight 1 ++ eight 1 ++ (5 ∷ eight 1) ++ eight 1 ++ (5 ∷ eight 1) ++ (0 ∷ []) ++ (0 ∷ []))
+    ≡ Whole (record { id = id; rewritten = false; last = 1; cut = 0; floor = 0; size = 1024; entries = (1, record { time = 1; body = Command 1 1 (Wipe 1) No_reply }) ∷ []; gate = 112 })
 unfolding parse_open number_at spelling entry_at bounded_at reading.number_at byte_at body_at body_behind command_at effect_at effect_behind reply_at reply_behind body frame appended_walk descriptor_fields
-unbuilt = refl
+wiping = refl
 
 closed : parse id (0 ∷ drop 1 file) ≡ Closed
 closed = refl

@@ -1,5 +1,5 @@
 -- What the bytes of a frame and of a descriptor are read as.
-use Rattle.std.proofs.Common.{◌≡◌, ℕ, ◌+◌, ◌-◌, ◌≤◌, Bool, true, false, ◌&&◌, nat_eq, nat_le, List, [], ◌∷◌, ◌++◌, length, drop, None, refl, ap, ◌∙◌, arith, if◌then◌else◌, append_assoc, length-append}
+use Rattle.std.proofs.Common.{◌≡◌, ℕ, ◌+◌, ◌-◌, ◌≤◌, Bool, true, false, nat_eq, nat_le, List, [], ◌∷◌, ◌++◌, length, drop, None, refl, ap, ◌∙◌, arith, if◌then◌else◌, append_assoc, length-append}
 use Rattle.std.proofs.lemmas.List.{append-nil, drop_all, take_all, take-append-le}
 use Rattle.std.specs.Int.{w32, to_be_bytes}
 use Rattle.std.proofs.lemmas.Bool.{and_from, eq-eqb, le-leb}
@@ -12,7 +12,7 @@ use Rattle.host_types.specs.declared.entry.Entry.{Entry}
 use Rattle.entry_codec.specs.Spelled.{spelled}
 use Rattle.entry_codec.specs.Reading.{Spelling, Spells, spelling}
 use Rattle.segment_files.specs.Numbers.{Four, Eight, number_at}
-use Rattle.segment_files.specs.Parse.{Numbered, Holds, Breaks, with_entry, first_of, body, Framed, Whole, frame, frame_room, is_built, is_next, mark, parse, appended_part, descriptor_fields, first_wrong}
+use Rattle.segment_files.specs.Parse.{Numbered, Holds, Breaks, with_entry, first_of, body, Framed, Whole, frame, frame_room, is_next, mark, parse, appended_part, descriptor_fields, first_wrong}
 use Rattle.segment_files.specs.Contents.{appended_descriptor, descriptor_bytes, body_bytes, frame_bytes}
 use Rattle.segment_files.proofs.Descriptors.{right}
 use Rattle.segment_files.proofs.Bodies.{body_more, body_end}
@@ -26,7 +26,6 @@ use Rattle.segment_files.proofs.Walks.{walk_shut}
 pub record Follows (before index : ℕ) (entry : Entry) : Type 0 where
   pub next : index ≡ before + 1
   pub low : index ≤ last_limit
-  pub built : is_built entry.body ≡ true
   pub spells : spelling (spelled index entry) ≡ Spells index entry (length (spelled index entry))
   pub least : 17 ≤ length (spelled index entry)
   pub most : length (spelled index entry) ≤ 131072
@@ -49,7 +48,7 @@ module _ (before index : ℕ) (entry : Entry) (f : Follows before index entry) w
   length-one_frame = omega (arith, ap length body_is)
 
   fit : is_next before index entry ≡ true
-  fit = and_from (nat_eq index (before + 1)) (nat_le index last_limit && is_built entry.body) (eq-eqb index (before + 1) f.next) (and_from (nat_le index last_limit) (is_built entry.body) (le-leb index last_limit f.low) f.built)
+  fit = and_from (nat_eq index (before + 1)) (nat_le index last_limit) (eq-eqb index (before + 1) f.next) (le-leb index last_limit f.low)
 
   body_read : body is_next frame_room before bytes ≡ Holds one
   body_read =

@@ -10,7 +10,7 @@ use Rattle.segment_files.specs.Files.{is_open}
 use Rattle.segment_files.specs.Numbers.{Four, number_at}
 use Rattle.segment_files.specs.Parse.{Numbered, Part, Found, Whole, Walk, Ends, Fails, appended_walk, appended_part, described, descriptor_fields, first_wrong, parse}
 use Rattle.segment_files.specs.Contents.{appended_descriptor, IsDamage, IsFailing, HasFrames, IsContents, IsOpened, IsNoDamage, IsTrueFault, HasFileCause}
-use Rattle.segment_files.proofs.Scanning.{good_head, open_parse}
+use Rattle.segment_files.proofs.Scanning.{good_head}
 
 module _ (id : FileId) (bytes : List ℕ) (is : is_open bytes ≡ true) (right : first_wrong (descriptor_fields id) (take 64 bytes) ≡ None) where
   bad_part : (w : Walk) → IsFailing w → IsDamage (appended_part id (take 64 bytes) w)

@@ -1,19 +1,9 @@
 -- What the bytes of one file are: closed, a part of a log, or damaged at a place.
 -- Each place is counted from the start of what is read, and each level adds its own.
-use Rattle.std.specs.Prelude.{◌+◌, ◌-◌, ℕ, zero, suc, Bool, true, false, not, ◌&&◌, nat_eq, nat_lt, nat_le, if◌then◌else◌, List, [], ◌∷◌, ◌++◌, length, take, drop, Option, Some, None}
+use Rattle.std.specs.Prelude.{◌+◌, ◌-◌, ℕ, zero, suc, Bool, false, not, ◌&&◌, nat_eq, nat_lt, nat_le, if◌then◌else◌, List, [], ◌∷◌, ◌++◌, length, take, drop, Option, Some, None}
 use Rattle.host_types.specs.declared.entry.Entry.{Entry}
 use Rattle.disk_model.specs.declared.file_id.FileId.{FileId}
 use Rattle.segment_files.specs.Files.{is_open}
-use Rattle.host_types.specs.declared.entry.Body.{Body as What}
-use Rattle.host_types.specs.declared.entry.Body.TheVariants.{Register, Alive, Close, Tick, Command}
-use Rattle.host_types.specs.declared.entry.Cell.{Cell}
-use Rattle.host_types.specs.declared.entry.Cell.TheVariants as cells
-use Rattle.host_types.specs.declared.entry.Content.{Content}
-use Rattle.host_types.specs.declared.entry.Content.TheVariants as contents
-use Rattle.host_types.specs.declared.entry.Effect.{Effect}
-use Rattle.host_types.specs.declared.entry.Effect.TheVariants as effects
-use Rattle.host_types.specs.declared.entry.Kind.{Kind}
-use Rattle.host_types.specs.declared.entry.Kind.TheVariants as kinds
 use Rattle.host_types.specs.Limits.{last_limit}
 use Rattle.entry_codec.specs.Reading.{Spelling, Spells, Spoils, spelling}
 use Rattle.segment_files.specs.Numbers.{Size, One, Four, Eight, bytes_of, number_at}
@@ -92,44 +82,9 @@ go_on (Framed entries size) rest = behind_frame entries (rest entries size)
 abbrev pub frame_room : ℕ
 frame_room = 64
 
--- which kinds of resources a log may have today
-abbrev pub is_built_kind : Kind → Bool
-is_built_kind kinds.Value = true
-is_built_kind kinds.Counter = true
-is_built_kind _ = false
-
--- and which cells of theirs
-abbrev pub is_built_cell : Cell → Bool
-is_built_cell cells.One = true
-is_built_cell _ = false
-
-abbrev pub is_built_content : Content → Bool
-is_built_content contents.Mark = false
-is_built_content (contents.Text word) = true
-is_built_content (contents.Number number) = true
-
--- which effects: those on names, and what a value or a counter stores
-abbrev pub is_built_effect : Effect → Bool
-is_built_effect effects.Nothing = true
-is_built_effect (effects.Create name kind) = is_built_kind kind
-is_built_effect (effects.Delete name instance) = true
-is_built_effect (effects.Put instance cell content owner) = is_built_cell cell && is_built_content content
-is_built_effect (effects.Drop instance cell) = is_built_cell cell
-is_built_effect (effects.Wipe instance) = false
-is_built_effect (effects.WipeKey instance key) = false
-is_built_effect (effects.Tell instance word) = false
-
--- which entries a log may have today: what isn't built yet is damage
-abbrev pub is_built : What → Bool
-is_built (Command session seq effect reply) = is_built_effect effect
-is_built (Register timeout) = true
-is_built (Alive session seq event) = true
-is_built (Close session expired) = true
-is_built Tick = true
-
 -- each index is the one after
 abbrev pub is_next : Follows
-is_next before index entry = nat_eq index (before + 1) && (nat_le index last_limit && is_built entry.body)
+is_next before index entry = nat_eq index (before + 1) && nat_le index last_limit
 
 -- So many bytes are passed first: those of the frame before. The recursion is on the bytes.
 unfoldable pub appended_walk : ℕ → ℕ → List ℕ → Walk

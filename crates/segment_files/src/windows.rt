@@ -1,14 +1,13 @@
 // Reads frames: an open gate, a length, and so many bytes of entries.
-ghost use Rattle.std.specs.Prelude.{ℕ, ◌≡◌, ◌++◌, ◌+◌, ◌-◌, ◌<◌, ◌≤◌, ◌^◌, length, IfOk};
+ghost use Rattle.std.specs.Prelude.{ℕ, ◌≡◌, ◌++◌, ◌&&◌, nat_eq, nat_le, ◌+◌, ◌-◌, ◌<◌, ◌≤◌, ◌^◌, length, IfOk};
 ghost use Rattle.host_types.specs.Limits.{last_limit};
 ghost use Rattle.disk_model.specs.Image.{id_limit};
-ghost use Rattle.segment_files.specs.Parse.{is_built, is_built_effect, is_next};
 ghost use Rattle.segment_files.specs.Contents.{AreNumbered, IsMeasured, ReadsBody, ReadsFrame, ReadsNext, ReadsWindow};
 
 use crate::frames::{BODY_LIMIT, FRAME_ROOM};
 use crate::numbers::u32_at;
 use entry_codec::{ReadFault, read};
-use host_types::{Body, Cell, Content, Effect, Entry, Index, Kind, NoMemory};
+use host_types::{Entry, Index, NoMemory};
 use std::alloc::Global;
 
 /// The least length of a body, that of one tick.
@@ -39,37 +38,12 @@ pub(crate) enum FrameRead {
     Damaged,
 }
 
-/// Whether a log may have this effect today: those on names, and what a value or a counter stores.
-fn is_built_effect(effect: &Effect) -> bool
-    ensures { result ≡ is_built_effect effect.now }
-{
-    match effect {
-        Effect::Nothing | Effect::Delete { .. } => true,
-        Effect::Create { kind, .. } => matches!(kind, Kind::Value | Kind::Counter),
-        Effect::Put { cell, content, .. } => {
-            matches!(cell, Cell::One) && !matches!(content, Content::Mark)
-        }
-        Effect::Drop { cell, .. } => matches!(cell, Cell::One),
-        _ => false,
-    }
-}
-
-/// Whether a log may have an entry with this body today.
-fn is_built(body: &Body) -> bool
-    ensures { result ≡ is_built body.now }
-{
-    match body {
-        Body::Command { effect, .. } => is_built_effect(effect),
-        _ => true,
-    }
-}
-
-/// Whether a log may have this entry behind that index. What isn't built yet is damage.
-fn may_follow(before: Index, index: Index, entry: &Entry) -> bool
+/// Whether a log may have an entry of this index behind that one.
+fn may_follow(before: Index, index: Index) -> bool
     requires { before + 1 < 2 ^ 64 }
-    ensures { result ≡ is_next before index entry.now }
+    ensures { result ≡ (nat_eq index (before + 1) && nat_le index last_limit) }
 {
-    index == before + 1 && index <= LAST && is_built(&entry.body)
+    index == before + 1 && index <= LAST
 }
 
 /// Reads the entry that these bytes begin with, and puts it behind the others, where the log may have it behind that index.
@@ -90,7 +64,7 @@ fn read_next(
         Err(ReadFault::NoMemory) => return Err(NoMemory),
     };
     let count = entries.len();
-    let follows = may_follow(before, index, &entry);
+    let follows = may_follow(before, index);
     entries.push((index, entry))?;
     if follows {
         return Ok(Some(size));

@@ -34,7 +34,6 @@ follows : (last : ℕ) (bytes : List ℕ) (entry : Entry) → last < last_limit 
 follows last bytes entry room f = record {
   next = refl;
   low = omega (arith, room);
-  built = f.built;
   spells = ap spelling (sym (append-nil (spelled (last + 1) entry))) ∙ spelled_again (last + 1) entry [] f.range f.fits;
   least = least_size (last + 1) entry f.fits;
   most = greatest_size (last + 1) entry f.fits;

@@ -1,5 +1,5 @@
 -- The entries of the open file are handed on, from one file to the next and to the parts.
-use Rattle.std.proofs.Common.{◌≡◌, ℕ, ◌-◌, List, [], length, Option, Some, None, sym, ap, subst, arith}
+use Rattle.std.proofs.Common.{◌≡◌, ℕ, ◌-◌, List, length, Option, Some, None, sym, ap, subst, arith}
 use Rattle.disk_model.specs.declared.file_id.FileId.{FileId}
 use Rattle.segment_files.specs.Contents.{AreNumbered}
 use Rattle.segment_files.specs.Parse.{Numbered}

@@ -8,7 +8,7 @@ use Rattle.disk_model.specs.declared.file_id.FileId.{FileId}
 use Rattle.segment_files.specs.Numbers.{Four, number_at}
 use Rattle.entry_codec.specs.Reading.{Spelling, Spells, Spoils, spelling}
 use Rattle.host_types.specs.Limits.{last_limit}
-use Rattle.segment_files.specs.Parse.{Numbered, Part, Whole, Body, Holds, Breaks, with_entry, first_of, body, Framed, Crooked, framed, frame, is_built, is_next, frame_room, parse}
+use Rattle.segment_files.specs.Parse.{Numbered, Part, Whole, Body, Holds, Breaks, with_entry, first_of, body, Framed, Crooked, framed, frame, is_next, frame_room, parse}
 use Rattle.segment_set.specs.Fits.{bare}
 use Rattle.segment_set.proofs.Walks.{Walked, By_byte, At_gate, By_frame, walked, frame_form}
 use Rattle.segment_set.proofs.Appended.{appended}
@@ -43,7 +43,7 @@ more_follow before a b f g = record {
 }
 
 next_is : (before index : ℕ) (entry : Entry) → is_next before index entry ≡ true → index ≡ before + 1
-next_is before index entry t = eqb-true index (before + 1) (and_parts (nat_eq index (before + 1)) (nat_le index last_limit && is_built entry.body) t).0
+next_is before index entry t = eqb-true index (before + 1) (and_parts (nat_eq index (before + 1)) (nat_le index last_limit) t).0
 
 body_none : (room before : ℕ) → body is_next room before [] ≡ Holds []
 unfolding body

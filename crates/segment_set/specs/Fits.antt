@@ -1,12 +1,12 @@
 -- What the parts of a log are on a disk that tells.
-use Rattle.std.specs.Prelude.{◌≡◌, ◌≢◌, ◌≤◌, ◌⊎◌, ◌+◌, ℕ, true, List, [], ◌∷◌, ◌++◌, length, map, Option, Some, None}
+use Rattle.std.specs.Prelude.{◌≡◌, ◌≢◌, ◌≤◌, ◌⊎◌, ◌+◌, ℕ, List, [], ◌∷◌, ◌++◌, length, map, Option, Some, None}
 use Rattle.host_types.specs.declared.entry.Entry.{Entry}
 use Rattle.entry_codec.specs.Spelled.{IsInRange, EntryFits}
 use Rattle.disk_model.specs.declared.file_id.FileId.{FileId}
 use Rattle.disk_model.specs.Image.{Place, Image, place}
 use Rattle.disk_model.specs.View.{View, MayHold, MayLeave, IsListed}
 use Rattle.segment_files.specs.Files.{IsAtGate}
-use Rattle.segment_files.specs.Parse.{Numbered, Part, Found, Closed, Whole, Damaged, is_built}
+use Rattle.segment_files.specs.Parse.{Numbered, Part, Found, Closed, Whole, Damaged}
 use Rattle.segment_files.specs.Folder.{folder, entries_of, Stands, StandsForPrefix, EachHas}
 use Rattle.segment_files.specs.Contents.{frame_bytes, shut_frame_bytes}
 use Rattle.segment_set.specs.Growth.{grown, new_tail}
@@ -85,9 +85,8 @@ pub record IsMade (v : View) (name : List ℕ) (id : FileId) (size : ℕ) : Type
   pub whole : folder name v.reading id ≡ Whole (new_tail id size)
   pub at_gate : IsAtGate v (place name id) 64
 
--- a frame with the entry that comes next, which a log may have, and the shut gate behind it
+-- a frame with the entry that comes next, and the shut gate behind it
 pub record IsFrameFor (last : ℕ) (frame : List ℕ) (entry : Entry) : Type 0 where
-  pub built : is_built entry.body ≡ true
   pub range : IsInRange (last + 1) entry
   pub fits : EntryFits entry
   pub bytes : frame ≡ shut_frame_bytes ((last + 1, entry) ∷ [])

@@ -10,7 +10,7 @@ use Rattle.host_recovery.specs.Seen.{Seen}
 use Rattle.host_recovery.specs.Standing.{StandsAt, StandsOrExpires}
 use Rattle.host_recovery.proofs.Stores.{stays_empty}
 use Rattle.host_recovery.specs.Answers.{admits_file, expiry_stored}
-use Rattle.host_recovery.proofs.Growing.{expires_by, expires_so, expiry_admitted, item_in_range, item_is_built, leaves_more, stands_more, stays_unexpired}
+use Rattle.host_recovery.proofs.Growing.{expires_by, expires_so, expiry_admitted, item_in_range, leaves_more, stands_more, stays_unexpired}
 use Rattle.host_recovery.proofs.host.Host.expire.Goals as goal
 
 pub returns-then-time-now-clause-any_moment : goal.returns-then-time-now-clause-any_moment
@@ -65,10 +65,6 @@ store-requires-clause-fits g c =
     let expires = (expires_so (hosted g.M.Machine.cells c.self.inside.core) c.args.time c.in-Some.session (omega (arith, c.if-time-now.false, c.now.ensures))
     (ap (λ (t : Table). due_in c.args.time t.sessions) (sym c.sessions.ensures) ∙ sym c.due.ensures ∙ c.in-Some.is) (omega (arith, c.if-last-ge-LAST_LIMIT.false, c.last.ensures))) in
     (item_in_range g.M.Machine.decides (hosted g.M.Machine.cells c.self.inside.core) (Expired c.args.time c.in-Some.session) c.end_of.result g.met.M.Machine.lawful c.keeps.ensures.sound c.end_of.ensures.fits (expiry_admitted g.M.Machine.decides (hosted g.M.Machine.cells c.self.inside.core) c.args.time c.in-Some.session expires) c.end_of.ensures.entry).0
-
-pub store-requires-clause-built : goal.store-requires-clause-built
-store-requires-clause-built g c =
-    item_is_built g.M.Machine.decides (hosted g.M.Machine.cells c.self.inside.core) (Expired c.args.time c.in-Some.session) c.end_of.result c.self.invariant.built c.end_of.ensures.entry
 
 pub returns-in-Ok-clause-stands : goal.returns-in-Ok-clause-stands
 returns-in-Ok-clause-stands g c = λ t items at.

@@ -14,7 +14,7 @@ use Rattle.host_recovery.specs.Seen.{Seen}
 use Rattle.host_recovery.specs.Standing.{StandsAt, StandsOrTakes}
 use Rattle.host_recovery.specs.Answers.{admits_stored}
 use Rattle.host_recovery.proofs.Stores.{stays_empty}
-use Rattle.host_recovery.proofs.Growing.{answered, by_files, by_state, item_in_range, item_is_built, leaves_more, offer_admitted, stands_more, stays_untaken}
+use Rattle.host_recovery.proofs.Growing.{answered, by_files, by_state, item_in_range, leaves_more, offer_admitted, stands_more, stays_untaken}
 use Rattle.host_recovery.proofs.host.Host.offer.Goals as goal
 
 pub returns-in-Ok-Repeat-clause-any_moment : goal.returns-in-Ok-Repeat-clause-any_moment
@@ -91,11 +91,6 @@ store-requires-clause-range g c =
     let decided = (subst (λ (x : Decided). Decides_as (hosted_admits g.M.Machine.decides (hosted g.M.Machine.cells c.self.inside.core) c.args.one.now) (hosted_entry g.M.Machine.decides (hosted g.M.Machine.cells c.self.inside.core) (Offered c.args.one.now)) (Ok x)) c.in-Ok-Store.field-0-is c.in-Ok-Store.ensures.decided) in
     subst (λ (h : Seen g.row.D.Denot g.row.M.Denot). IsInRange (h.core.last + 1) c.in-Ok-Store.entry) c.self.view_is
     (item_in_range g.M.Machine.decides (hosted g.M.Machine.cells c.self.inside.core) (Offered c.args.one.now) c.in-Ok-Store.entry g.met.M.Machine.lawful c.keeps.ensures.sound c.fits.ensures (offer_admitted g.M.Machine.decides (hosted g.M.Machine.cells c.self.inside.core) c.args.one.now decided.0) decided.1).1
-
-pub store-requires-clause-built : goal.store-requires-clause-built
-store-requires-clause-built g c =
-    let decided = (subst (λ (x : Decided). Decides_as (hosted_admits g.M.Machine.decides (hosted g.M.Machine.cells c.self.inside.core) c.args.one.now) (hosted_entry g.M.Machine.decides (hosted g.M.Machine.cells c.self.inside.core) (Offered c.args.one.now)) (Ok x)) c.in-Ok-Store.field-0-is c.in-Ok-Store.ensures.decided) in
-    item_is_built g.M.Machine.decides (hosted g.M.Machine.cells c.self.inside.core) (Offered c.args.one.now) c.in-Ok-Store.entry c.self.invariant.built decided.1
 
 pub returns-in-Ok-store-clause-stands : goal.returns-in-Ok-store-clause-stands
 returns-in-Ok-store-clause-stands g c = λ t items at.

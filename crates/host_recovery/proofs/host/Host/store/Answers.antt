@@ -35,7 +35,7 @@ returns-in-Err-reserve-clause-empty g c =
 pub returns-in-Ok-append-clause-any_moment : goal.returns-in-Ok-append-clause-any_moment
 returns-in-Ok-append-clause-any_moment g c =
     subst (λ (h : Seen g.row.D.Denot g.row.M.Denot). IsTrue g.D.Disk.tells → IsHeld (g.D.Disk.view h.disk) h.parts.name h.parts.tail → LeavesOnly (g.D.Disk.view h.disk) (g.D.Disk.view c.append.new.disk) (StandsOrGains h.parts.name (log_in (g.D.Disk.view h.disk) h.parts) c.args.entry)) c.self.view_is
-    (λ t held. c.append.ensures.any_moment t held c.args.entry (frame_for (last_of c.self.inside.parts.tail) c.last-index.result c.deref.result.now c.args.entry (c.last-index.ensures ∙ c.self.invariant.last (ap (λ (h : Seen g.row.D.Denot g.row.M.Denot). h.stopped) c.self.view_is ∙ c.requires.runs)) c.requires.built
+    (λ t held. c.append.ensures.any_moment t held c.args.entry (frame_for (last_of c.self.inside.parts.tail) c.last-index.result c.deref.result.now c.args.entry (c.last-index.ensures ∙ c.self.invariant.last (ap (λ (h : Seen g.row.D.Denot g.row.M.Denot). h.stopped) c.self.view_is ∙ c.requires.runs))
     (subst (λ (n : ℕ). IsInRange (n + 1) c.args.entry) (sym (c.last-index.ensures ∙ ap (λ (h : Seen g.row.D.Denot g.row.M.Denot). h.core.last) c.self.view_is)) c.requires.range) c.requires.fits (c.deref.ensures.value ∙ c.in-Ok.ensures)))
 
 pub returns-in-Ok-append-clause-empty : goal.returns-in-Ok-append-clause-empty
@@ -46,7 +46,7 @@ returns-in-Ok-append-clause-empty g c =
 pub returns-in-Err-append-clause-any_moment : goal.returns-in-Err-append-clause-any_moment
 returns-in-Err-append-clause-any_moment g c =
     subst (λ (h : Seen g.row.D.Denot g.row.M.Denot). IsTrue g.D.Disk.tells → IsHeld (g.D.Disk.view h.disk) h.parts.name h.parts.tail → LeavesOnly (g.D.Disk.view h.disk) (g.D.Disk.view c.append.new.disk) (StandsOrGains h.parts.name (log_in (g.D.Disk.view h.disk) h.parts) c.args.entry)) c.self.view_is
-    (λ t held. c.append.ensures.any_moment t held c.args.entry (frame_for (last_of c.self.inside.parts.tail) c.last-index.result c.deref.result.now c.args.entry (c.last-index.ensures ∙ c.self.invariant.last (ap (λ (h : Seen g.row.D.Denot g.row.M.Denot). h.stopped) c.self.view_is ∙ c.requires.runs)) c.requires.built
+    (λ t held. c.append.ensures.any_moment t held c.args.entry (frame_for (last_of c.self.inside.parts.tail) c.last-index.result c.deref.result.now c.args.entry (c.last-index.ensures ∙ c.self.invariant.last (ap (λ (h : Seen g.row.D.Denot g.row.M.Denot). h.stopped) c.self.view_is ∙ c.requires.runs))
     (subst (λ (n : ℕ). IsInRange (n + 1) c.args.entry) (sym (c.last-index.ensures ∙ ap (λ (h : Seen g.row.D.Denot g.row.M.Denot). h.core.last) c.self.view_is)) c.requires.range) c.requires.fits (c.deref.ensures.value ∙ c.in-Ok.ensures)))
 
 pub returns-in-Err-append-clause-empty : goal.returns-in-Err-append-clause-empty
@@ -64,14 +64,14 @@ pub returns-in-Ok-append-clause-log : goal.returns-in-Ok-append-clause-log
 returns-in-Ok-append-clause-log g c =
     subst (λ (h : Seen g.row.D.Denot g.row.M.Denot). IsTrue g.D.Disk.tells → log_in (g.D.Disk.view c.append.new.disk) c.append.new.self ≡ log_in (g.D.Disk.view h.disk) h.parts ++ c.args.entry ∷ []) c.self.view_is
     (λ t. (shows_more (g.D.Disk.view c.self.inside.disk) (g.D.Disk.view c.append.new.disk) c.self.inside.parts c.append.new.self c.self.inside.size c.args.entry (c.self.invariant.fits (ap (λ (h : Seen g.row.D.Denot g.row.M.Denot). h.stopped) c.self.view_is ∙ c.requires.runs) t) c.append.ensures.name
-    (c.in-Ok-append.ensures.parts t c.args.entry (frame_for (last_of c.self.inside.parts.tail) c.last-index.result c.deref.result.now c.args.entry (c.last-index.ensures ∙ c.self.invariant.last (ap (λ (h : Seen g.row.D.Denot g.row.M.Denot). h.stopped) c.self.view_is ∙ c.requires.runs)) c.requires.built
+    (c.in-Ok-append.ensures.parts t c.args.entry (frame_for (last_of c.self.inside.parts.tail) c.last-index.result c.deref.result.now c.args.entry (c.last-index.ensures ∙ c.self.invariant.last (ap (λ (h : Seen g.row.D.Denot g.row.M.Denot). h.stopped) c.self.view_is ∙ c.requires.runs))
     (subst (λ (n : ℕ). IsInRange (n + 1) c.args.entry) (sym (c.last-index.ensures ∙ ap (λ (h : Seen g.row.D.Denot g.row.M.Denot). h.core.last) c.self.view_is)) c.requires.range) c.requires.fits (c.deref.ensures.value ∙ c.in-Ok.ensures))) c.in-Ok-append.ensures.greatest).0)
 
 pub returns-in-Ok-append-clause-layout : goal.returns-in-Ok-append-clause-layout
 returns-in-Ok-append-clause-layout g c =
     subst (λ (h : Seen g.row.D.Denot g.row.M.Denot). IsTrue g.D.Disk.tells → layout_in (g.D.Disk.view c.append.new.disk) c.append.new.self ≡ with_entry h.size (layout_in (g.D.Disk.view h.disk) h.parts)) c.self.view_is
     (λ t. (shows_more (g.D.Disk.view c.self.inside.disk) (g.D.Disk.view c.append.new.disk) c.self.inside.parts c.append.new.self c.self.inside.size c.args.entry (c.self.invariant.fits (ap (λ (h : Seen g.row.D.Denot g.row.M.Denot). h.stopped) c.self.view_is ∙ c.requires.runs) t) c.append.ensures.name
-    (c.in-Ok-append.ensures.parts t c.args.entry (frame_for (last_of c.self.inside.parts.tail) c.last-index.result c.deref.result.now c.args.entry (c.last-index.ensures ∙ c.self.invariant.last (ap (λ (h : Seen g.row.D.Denot g.row.M.Denot). h.stopped) c.self.view_is ∙ c.requires.runs)) c.requires.built
+    (c.in-Ok-append.ensures.parts t c.args.entry (frame_for (last_of c.self.inside.parts.tail) c.last-index.result c.deref.result.now c.args.entry (c.last-index.ensures ∙ c.self.invariant.last (ap (λ (h : Seen g.row.D.Denot g.row.M.Denot). h.stopped) c.self.view_is ∙ c.requires.runs))
     (subst (λ (n : ℕ). IsInRange (n + 1) c.args.entry) (sym (c.last-index.ensures ∙ ap (λ (h : Seen g.row.D.Denot g.row.M.Denot). h.core.last) c.self.view_is)) c.requires.range) c.requires.fits (c.deref.ensures.value ∙ c.in-Ok.ensures))) c.in-Ok-append.ensures.greatest).1)
 
 pub returns-in-Ok-append-clause-held : goal.returns-in-Ok-append-clause-held
