@@ -1,11 +1,11 @@
 -- What is so of the cells of every table.
-use Rattle.std.proofs.Common.{◌≡◌, ℕ, true, Option, Some, None, refl, sym, ap, ◌∙◌}
+use Rattle.std.proofs.Common.{◌≡◌, ℕ, true, Option, Some, None, is_some, refl, sym, ap, ◌∙◌}
 use Rattle.std.specs.Option.{option_map}
 use Rattle.std.proofs.lemmas.Option.{none-some, same_Some}
 use Rattle.std.proofs.lemmas.Bool.{and_parts}
 use Rattle.host_types.specs.declared.entry.Cell.{Cell}
 use Rattle.host_types.specs.declared.entry.Kind.{Kind}
-use Rattle.host_types.specs.Cells.{Place, Cell_at, Held, at, is_of_kind}
+use Rattle.host_types.specs.Cells.{Place, Cell_at, Held, at, stands, is_of_kind}
 use Rattle.cell_table.specs.declared.filled.Filled.{Filled}
 use Rattle.cell_table.specs.Slots.{Slots, held_in, slot_at, shown}
 use Rattle.cell_table.specs.Arrivals.{Arrivals, arrival, is_waiter, AreArrived}
@@ -24,6 +24,13 @@ own_cells kind m es s right place held there =
     go k None e is = absurd (none-some held is)
     go k (Some f) e is = ap (λ (x : Held). is_of_kind kind k x.content) (sym (same_Some (held_in f) held is)) ∙ (and_parts (is_of_kind kind k f.content) (is_spelled k) (right k f e)).0
 
+spelled_cells : (kind : Kind) (m : ℕ) (es : Slots) → InOrder es → AreRight kind es → (cell : Cell) → stands (shown m es) (Cell_at m cell) ≡ true → is_spelled cell ≡ true
+spelled_cells kind m es s right cell there = go (slot_at es cell) refl (sym (ap is_some (at_shown m es cell s)) ∙ there)
+  where
+    go : (o : Option Filled) → slot_at es cell ≡ o → is_some (option_map held_in o) ≡ true → is_spelled cell ≡ true
+    go None e is = absurd (cc)
+    go (Some f) e is = (and_parts (is_of_kind kind cell f.content) (is_spelled cell) (right cell f e)).1
+
 waiters_apart : (m : ℕ) (es : Slots) (qs : Arrivals) → InOrder es → AreArrived es qs → (c d : Cell) (h g : Held) → is_waiter c ≡ true → is_waiter d ≡ true → at (shown m es) (Cell_at m c) ≡ Some h → at (shown m es) (Cell_at m d) ≡ Some g → h.index ≡ g.index → c ≡ d
 waiters_apart m es qs s arrived c d h g waits too there here same =
     same_Some c d (sym (told c h waits there) ∙ ap (arrival qs) same ∙ told d g too here)
@@ -36,4 +43,4 @@ waiters_apart m es qs s arrived c d h g waits too there here same =
         go (Some f) e is = ap (λ (x : Held). arrival qs x.index) (sym (same_Some (held_in f) h is)) ∙ arrived c f waits e
 
 pub in_order : (kind : Kind) (m : ℕ) (es : Slots) (qs : Arrivals) → InOrder es → AreArrived es qs → AreRight kind es → AreInOrder kind m (shown m es)
-in_order kind m es qs s arrived right = record { rise = true_of _ (shown_sorted m es s); own = own_cells kind m es s right; apart = waiters_apart m es qs s arrived }
+in_order kind m es qs s arrived right = record { rise = true_of _ (shown_sorted m es s); own = own_cells kind m es s right; spelled = spelled_cells kind m es s right; apart = waiters_apart m es qs s arrived }

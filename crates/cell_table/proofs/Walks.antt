@@ -56,7 +56,7 @@ module _ (p : Place × Held → Bool) where
   sorted_kept [] h = tt
   sorted_kept (e ∷ c) h = let b = both _ _ h in elim (p e) as (λ t. T (is_sorted place_cmp (cond t (e ∷ filter p c) (filter p c)))) [ true ↦ from_both (below_all place_cmp e.0 (filter p c)) _ (below_kept e.0 c b.0) (sorted_kept c b.1) | false ↦ sorted_kept c b.1 ]
 
-  passes_first : (c rest : Cells) (x : Place × Held) → filter p c ≡ x ∷ rest → p x ≡ true
+  pub passes_first : (c rest : Cells) (x : Place × Held) → filter p c ≡ x ∷ rest → p x ≡ true
   passes_first [] rest x e = absurd (cc)
   passes_first (y ∷ c) rest x e = go (p y) refl e (λ is. passes_first c rest x is)
     where

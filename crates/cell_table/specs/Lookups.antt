@@ -6,8 +6,9 @@ use Rattle.std.specs.Ordering.{is_le, is_lt}
 use Rattle.std.specs.FinMap.Entries.{is_sorted}
 use Rattle.host_types.specs.declared.entry.Cell.{Cell}
 use Rattle.host_types.specs.declared.entry.Kind.{Kind}
-use Rattle.host_types.specs.Cells.{Place, Cell_at, Held, Cells, at, place_cmp, filled, is_of_kind, is_owned_by}
+use Rattle.host_types.specs.Cells.{Place, Cell_at, Held, Cells, at, stands, place_cmp, filled, is_of_kind, is_owned_by}
 use Rattle.cell_table.specs.Arrivals.{is_waiter}
+use Rattle.cell_table.specs.Pairs.{is_spelled}
 use Rattle.cell_table.specs.declared.table.Standing.{Standing}
 
 -- the cells from one on, and those above one
@@ -40,8 +41,10 @@ pub record IsFirstWaiter (m : ℕ) (cells : Cells) (from : ℕ) (cell : Cell) (h
   pub not_before : from ≤ held.index
   pub least : (c : Cell) (h : Held) → is_waiter c ≡ true → at cells (Cell_at m c) ≡ Some h → from ≤ h.index → held.index ≤ h.index
 
--- what is so of the cells of every table: they rise, each is one of its kind and instance, and no two waiters are held by one index
+-- What is so of the cells of every table: they rise, each is one of its kind and instance, no pair of a key is below its least pair, and
+-- no two waiters are held by one index.
 pub record AreInOrder (kind : Kind) (m : ℕ) (cells : Cells) : Type 0 where
   pub rise : IsTrue (is_sorted place_cmp cells)
   pub own : (place : Place) (held : Held) → at cells place ≡ Some held → (cell : Cell) × (place ≡ Cell_at m cell) × (is_of_kind kind cell held.content ≡ true)
+  pub spelled : (cell : Cell) → stands cells (Cell_at m cell) ≡ true → is_spelled cell ≡ true
   pub apart : (c d : Cell) (h g : Held) → is_waiter c ≡ true → is_waiter d ≡ true → at cells (Cell_at m c) ≡ Some h → at cells (Cell_at m d) ≡ Some g → h.index ≡ g.index → c ≡ d

@@ -12,4 +12,5 @@ mod slots;
 mod steps;
 mod table;
 
+pub use pairs::least_pair;
 pub use table::{CellTable, Standing};

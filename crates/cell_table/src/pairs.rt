@@ -26,8 +26,8 @@ pub(crate) fn spelled(cell: &Cell)
     }
 }
 
-// Where the pairs of a key begin.
-fn least_pair(alloc: Global, key: &Key) -> Result<Cell, NoMemory>
+/// Where the pairs of a key begin: no cell of the key's pairs is below this one.
+pub fn least_pair(alloc: Global, key: &Key) -> Result<Cell, NoMemory>
     ensures { IfOk result (λ cell. cell ≡ Pair key.now least_word) }
 {
     match Word::new(alloc, b"!") {

@@ -67,7 +67,7 @@ module _ {K X : Type 0} (R : K → K → Ordering) (m : ℕ) (pick : Cell → He
   pub read_keyed : (es : List (K × Held)) → T (is_sorted R es) → gather R (pick_in m pick) (keyed_cells m place es) ≡ readable read es
   read_keyed es s = gather_listed R (pick_in m pick) (keyed_cells m place es) (subst (λ l. T (is_sorted R l)) (sym (listed_keyed es)) (sorted_readable es s)) ∙ listed_keyed es
 
-all_keys : {K : Type 0} (es : List (K × Held)) → keys (readable stood es) ≡ keys es
+pub all_keys : {K : Type 0} (es : List (K × Held)) → keys (readable stood es) ≡ keys es
 all_keys [] = refl
 all_keys (e ∷ es) = ap (λ l. e.0 ∷ l) (all_keys es)
 

@@ -22,20 +22,20 @@ use Rattle.log_model.specs.kinds.Shows.{content_at}
 use Rattle.log_model.specs.kinds.Reading.{gather, pick_in, keys, keyed_by, picked_first, text_in, text_of, map_cell, pair_cell, word_cell, item_cell, listener_cell, listeners_in}
 use Rattle.log_model.proofs.Lookups.{T_both, T_from, tied_same, below_missing}
 use Rattle.log_model.proofs.kinds.Gather.{EachCell, weaker_cell, each_cell, read_at, word_of, stood, pair_total, exact_pairs}
-use Rattle.log_model.proofs.kinds.Bridges.{keyed_cells, readable, read_keyed}
+use Rattle.log_model.proofs.kinds.Bridges.{keyed_cells, readable, read_keyed, all_keys}
 use Rattle.log_model.proofs.kinds.Keyed.{named_order, member_order, pair_order, at_order, of_order, sorted_keyed, placed}
 
 -- each cell is one of the kind and the instance
 abbrev pub AreOf : Kind → ℕ → Cells → Type 0
 AreOf kind m c = (place : Place) (held : Held) → at c place ≡ Some held → (cell : Cell) × (place ≡ Cell_at m cell) × (is_of_kind kind cell held.content ≡ true)
 
-abbrev IsOf : Kind → ℕ → Place × Held → Type 0
+abbrev pub IsOf : Kind → ℕ → Place × Held → Type 0
 IsOf kind m e = (cell : Cell) × (e.0 ≡ Cell_at m cell) × (is_of_kind kind cell e.1.content ≡ true)
 
-each_of : (kind : Kind) (m : ℕ) (c : Cells) → IsTrue (is_sorted place_cmp c) → AreOf kind m c → EachCell (IsOf kind m) c
+pub each_of : (kind : Kind) (m : ℕ) (c : Cells) → IsTrue (is_sorted place_cmp c) → AreOf kind m c → EachCell (IsOf kind m) c
 each_of kind m c s own = weaker_cell (λ e. at c e.0 ≡ Some e.1) (IsOf kind m) (λ e there. own e.0 e.1 there) c (each_cell c (T_from _ s))
 
-abbrev cell_of : Place → Cell
+abbrev pub cell_of : Place → Cell
 cell_of (Cell_at m cell) = cell
 cell_of _ = One
 
@@ -190,6 +190,43 @@ set_has m c s own word =
 
 pub set_size : (m : ℕ) (c : Cells) → IsTrue (is_sorted place_cmp c) → AreOf Set m c → length (words_in m c) ≡ length c
 set_size m c s own = many_keys (gather text_cmp (pick_in m word_cell) c) ∙ size_is nat_list_cmp_total exact_texts m Set Member_cell word_in stood member_order member_back word_cell (λ k h. refl) c s own (λ cell h e. refl)
+
+-- ---- multimaps
+
+abbrev pub pair_place : List ℕ × List ℕ → Cell
+pair_place p = Pair p.0 p.1
+
+abbrev pair_of : Cell → List ℕ × List ℕ
+pair_of (Pair key word) = (key, word)
+pair_of _ = ([], [])
+
+pair_back : (cell : Cell) (content : Content) → is_of_kind Multimap cell content ≡ true → cell ≡ pair_place (pair_of cell)
+pair_back (Pair key word) content e = refl
+pair_back One content e = absurd (cc)
+pair_back (Named key) content e = absurd (cc)
+pair_back (Member_cell word) content e = absurd (cc)
+pair_back (At i) content e = absurd (cc)
+pair_back (Waiter a b) content e = absurd (cc)
+pair_back (Of a) content e = absurd (cc)
+
+pub multimap_has : (m : ℕ) (c : Cells) → IsTrue (is_sorted place_cmp c) → AreOf Multimap m c → (key word : List ℕ) → has_item pair_cmp (key, word) (keys (gather pair_cmp (pick_in m pair_cell) c)) ≡ stands c (Cell_at m (Pair key word))
+multimap_has m c s own key word =
+    has_key pair_cmp (key, word) (gather pair_cmp (pick_in m pair_cell) c)
+    ∙ ap is_some (find_is pair_total exact_pairs m Multimap pair_place pair_of stood pair_order pair_back pair_cell (λ k h. refl) c s own (key, word))
+    ∙ stood_at {K = List ℕ × List ℕ} (key, word) (at c (Cell_at m (Pair key word)))
+
+pub multimap_size : (m : ℕ) (c : Cells) → IsTrue (is_sorted place_cmp c) → AreOf Multimap m c → length (keys (gather pair_cmp (pick_in m pair_cell) c)) ≡ length c
+multimap_size m c s own = many_keys (gather pair_cmp (pick_in m pair_cell) c) ∙ size_is pair_total exact_pairs m Multimap pair_place pair_of stood pair_order pair_back pair_cell (λ k h. refl) c s own (λ cell h e. refl)
+
+-- the pairs in the order of their cells
+pub multimap_pairs : (m : ℕ) (c : Cells) → IsTrue (is_sorted place_cmp c) → AreOf Multimap m c
+    → (es : List ((List ℕ × List ℕ) × Held)) × (c ≡ keyed_cells m pair_place es) × (keys (gather pair_cmp (pick_in m pair_cell) c) ≡ keys es)
+multimap_pairs m c s own =
+    let es = entries pair_total exact_pairs m Multimap pair_place pair_of stood pair_order pair_back c in
+    ( es
+    , cells_are pair_total exact_pairs m Multimap pair_place pair_of stood pair_order pair_back c (each_of Multimap m c s own)
+    , ap keys (read_is pair_total exact_pairs m Multimap pair_place pair_of stood pair_order pair_back pair_cell (λ k h. refl) c s own) ∙ all_keys es
+    )
 
 -- ---- whether there is any
 

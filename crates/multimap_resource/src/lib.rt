@@ -1,0 +1,7 @@
+//! Multimaps.
+#![tactic(auto)]
+
+mod multimap;
+mod words;
+
+pub use multimap::MultimapCells;
