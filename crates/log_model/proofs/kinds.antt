@@ -11,3 +11,4 @@ pub mod RowStores
 pub mod ShownCloses
 pub mod ShownResources
 pub mod ShownRows
+pub mod Waiting
