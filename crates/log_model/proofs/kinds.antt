@@ -12,3 +12,4 @@ pub mod ShownCloses
 pub mod ShownResources
 pub mod ShownRows
 pub mod Tabled
+pub mod Waiting

@@ -80,6 +80,29 @@ module _ {K X : Type 0} {R : K → K → Ordering} (total : IsTotalOrder R) (exa
         ∙ elim (eq_by_cmp R k w.0) as (λ b. is_some (cond b (Some w.1) (find R k (gather R pick c))) ≡ (b || list_any (picks k) c)) [ true ↦ refl | false ↦ some_gather k c ]
   ]
 
+  -- what is picked of a cell is there
+  pub is_gathered : (c : Cells) (p : Place) (h : Held) (k : K) (x : X) → at c p ≡ Some h → pick (p, h) ≡ Some (k, x) → is_some (find R k (gather R pick c)) ≡ true
+  unfolding picks
+  is_gathered c p h k x there e =
+      let hit : picks k (p, h) ≡ true = ap (λ o. option_map_or (λ (w : K × X). eq_by_cmp R k w.0) o false) e ∙ tied_true total exact k in
+      some_gather k c ∙ any_from_found place_total exact_places (picks k) c p h there hit
+
+  -- what is there was picked of a cell
+  pub gathered_has : (P : K → X → Type 0) (k : K) (y : X) (c : Cells) → EachCell (λ e. (k : K) (x : X) → pick e ≡ Some (k, x) → P k x) c → find R k (gather R pick c) ≡ Some y → P k y
+  gathered_has P k y [] h f = absurd (cc)
+  gathered_has P k y (e ∷ c) h f =
+      elim (pick e) as (λ o. pick e ≡ o → find R k (picked R o (gather R pick c)) ≡ Some y → P k y) [
+        | None ↦ λ p f. gathered_has P k y c h.1 f
+        | Some w ↦ λ p f.
+            elim (eq_by_cmp R k w.0) as (λ t. eq_by_cmp R k w.0 ≡ t → cond t (Some w.1) (find R k (gather R pick c)) ≡ Some y → P k y) [
+              | true ↦ λ t f.
+                  let same : k ≡ w.0 = tied_same total exact k w.0 t in
+                  let is : w.1 ≡ y = (cc) in
+                  subst (λ (z : K × X). P z.0 z.1) (λ j. (sym same j, is j)) (h.0 w.0 w.1 p)
+              | false ↦ λ t f. gathered_has P k y c h.1 f
+            ] refl (sym (find-put R total k w.0 w.1 (gather R pick c)) ∙ f)
+      ] refl f
+
   value_gather : (L : List (K × X)) (k : K) (y : X) (c : Cells) → EachCell (λ e. (k : K) (x : X) → pick e ≡ Some (k, x) → find R k L ≡ Some x) c → find R k (gather R pick c) ≡ Some y → find R k L ≡ Some y
   value_gather L k y [] h f = absurd (cc)
   value_gather L k y (e ∷ c) h f =
@@ -332,10 +355,10 @@ unholding : (m : ℕ) (c : Cells) (ws : List (ℕ × ℕ)) → values (by_holdin
 unholding m c [] = refl
 unholding m c (w ∷ ws) = ap (λ l. w ∷ l) (unholding m c ws)
 
-waits : (w : ℕ × ℕ) → is_waiter w w ≡ true
+pub waits : (w : ℕ × ℕ) → is_waiter w w ≡ true
 waits w = and_from (w.0 == w.0) (w.1 == w.1) (eq-eqb w.0 w.0 refl) (eq-eqb w.1 w.1 refl)
 
-same_waiter : (v w : ℕ × ℕ) → is_waiter v w ≡ true → v ≡ w
+pub same_waiter : (v w : ℕ × ℕ) → is_waiter v w ≡ true → v ≡ w
 same_waiter v w e =
     let a = and_parts (v.0 == w.0) (v.1 == w.1) e in
     λ j. (eqb-true v.0 w.0 a.0 j, eqb-true v.1 w.1 a.1 j)
