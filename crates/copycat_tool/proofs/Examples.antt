@@ -4,7 +4,7 @@ use Rattle.std.specs.Fmt.{decimal}
 use Rattle.host_types.specs.declared.entry.Ask.TheVariants.{Tick}
 use Rattle.host_types.specs.declared.entry.Kind.TheVariants.{Value}
 use Rattle.host_types.specs.declared.entry.Refusal.TheVariants.{Ack, Forgotten, Gap, Kind, NoSession, Range}
-use Rattle.host_types.specs.declared.entry.Reply.TheVariants.{None as No_reply, Index, Number, Text, Truth}
+use Rattle.host_types.specs.declared.entry.Reply.TheVariants.{None as No_reply, Holder, Index, Number, Text, Truth}
 use Rattle.log_model.specs.plain.Admission.{Item, Offered}
 use Rattle.script_text.specs.declared.printed.Printed.{Printed}
 use Rattle.script_text.specs.declared.printed.Printed.TheVariants.{Opened, Session, Done, Expired, Replied, Repeat, Answer as Answers, Quiet, Refused}
@@ -115,8 +115,14 @@ expired_first : texts empty (lines_of (codes "register 0 10" ∷ codes "do 11 1 
 unfolding lines command line_read report
 expired_first = refl
 
--- a kind that isn't built ends the run, and nobody expires for it
-unbuilt : texts empty (lines_of (codes "register 0 1" ∷ codes "do 9 1 1 create m map" ∷ []))
-    ≡ answered (Opened 0 ∷ Session 1 ∷ []) ++ (codes "script fault at line " ++ decimal 2) ∷ []
+-- a map answers what stood before
+a_map : texts empty (lines_of (codes "register 0 100" ∷ codes "do 1 1 1 create m map" ∷ codes "do 2 1 2 put m k a" ∷ codes "do 3 1 3 put m k b" ∷ codes "alive 4 1 3 1" ∷ codes "do 4 1 3 put m k z" ∷ []))
+    ≡ answered (Opened 0 ∷ Session 1 ∷ Replied 2 (Index 2) ∷ Replied 3 No_reply ∷ Replied 4 (Text (codes "a")) ∷ Done 5 ∷ Refused (Forgotten 3) ∷ [])
 unfolding lines command line_read report
-unbuilt = refl
+a_map = refl
+
+-- a lock goes to the next who waits, when its holder expires
+a_lock : texts empty (lines_of (codes "register 0 10" ∷ codes "register 0 100" ∷ codes "do 1 1 1 create l lock" ∷ codes "do 2 1 2 lock l 7" ∷ codes "do 3 2 1 lock l 8" ∷ codes "tick 10" ∷ codes "tick 11" ∷ codes "ask holder l" ∷ []))
+    ≡ answered (Opened 0 ∷ Session 1 ∷ Session 2 ∷ Replied 3 (Index 3) ∷ Replied 4 (Truth true) ∷ Replied 5 (Truth false) ∷ Done 6 ∷ Expired 7 1 ∷ Done 8 ∷ Answers (Holder 2 8) ∷ [])
+unfolding lines command line_read report
+a_lock = refl

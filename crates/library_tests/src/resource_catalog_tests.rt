@@ -92,15 +92,21 @@ fn lists(rt: &impl Abort, alloc: Global, lines: &[Line], cells: usize, say: Say)
     drop(pairs);
 }
 
-/// A kind that isn't built has no resource, and its name isn't made.
-const UNBUILT: &[Line] = &[
-    (V, Ask::Create(Kind::Lock), Say::Kind(Kind::Lock)),
-    (V, Ask::Get, Say::NoName),
+/// A resource of each kind that has several cells.
+const KINDS: &[Line] = &[
+    (*b"k1", Ask::Create(Kind::Map), Say::Index(1)),
+    (*b"k2", Ask::Create(Kind::Multimap), Say::Index(2)),
+    (*b"k3", Ask::Create(Kind::Set), Say::Index(3)),
+    (*b"k4", Ask::Create(Kind::Queue), Say::Index(4)),
+    (*b"k5", Ask::Create(Kind::Lock), Say::Index(5)),
+    (*b"k6", Ask::Create(Kind::Group), Say::Index(6)),
+    (*b"k7", Ask::Create(Kind::Topic), Say::Index(7)),
+    (*b"k7", Ask::Create(Kind::Map), Say::Kind(Kind::Topic)),
 ];
 
 #[test]
-fn a_kind_that_is_not_built_is_declined(rt: HostRuntime) {
-    lists(&rt, rt.alloc(), UNBUILT, 0, Say::NoName);
+fn each_kind_can_be_created(rt: HostRuntime) {
+    lists(&rt, rt.alloc(), KINDS, 7, Say::NoName);
 }
 
 /// The name with this number.

@@ -10,7 +10,7 @@ ghost use Rattle.machine.specs.Release.{AreOut, Releases, Retires};
 ghost use Rattle.resource_catalog.specs.Kinds.{any_kind, any_instance, any_cells, decision_of};
 ghost use Rattle.resource_catalog.specs.Parts.{slot_cells, ResourceIsReady};
 ghost use Rattle.resource_catalog.specs.declared.slots.Slot.{Slot as ASlot};
-ghost use Rattle.resource_catalog.specs.Steps.{without_slot, without_its_name, AppliedIn, KeptIn, Forgot, is_named_at, tells_at, closes_by, closes_in};
+ghost use Rattle.resource_catalog.specs.Steps.{tells_by, without_slot, without_its_name, AppliedIn, KeptIn, Forgot, is_named_at, tells_at, closes_by, closes_in};
 ghost use Rattle.host_types.specs.Decision.{is_looking};
 ghost use Rattle.machine.specs.Answers.{Resolves, Looks};
 
@@ -161,6 +161,16 @@ pub(crate) fn prepare_in(
     }
 }
 
+// The events that an effect makes on one instance, where that has a name.
+fn tells_on(slot: &Slot, alloc: Global, effect: &Effect, index: Index) -> Result<Told, NoMemory>
+    ensures { IfOk result (λ told. told ≡ tells_by slot.now.resource slot.now.name effect.now index) }
+{
+    match &slot.name {
+        Some(name) => slot.resource.tells(alloc, name, effect, index),
+        None => Ok(Told::new(alloc)),
+    }
+}
+
 /// The events that an effect makes on an instance, where that is there and has a name.
 pub(crate) fn tells_in(
     slots: &[(Index, Slot)],
@@ -172,12 +182,10 @@ pub(crate) fn tells_in(
     requires { IsTrue (is_sorted nat_cmp slots.now) }
     ensures { IfOk result (λ told. told ≡ tells_at (find nat_cmp instance slots.now) effect.now index) }
 {
-    if let Ok(at) = place_of(slots, &instance) {
-        if let Some(name) = &slots[at].1.name {
-            return slots[at].1.resource.tells(alloc, name, effect, index);
-        }
+    match place_of(slots, &instance) {
+        Ok(at) => tells_on(&slots[at].1, alloc, effect, index),
+        Err(_) => Ok(Told::new(alloc)),
     }
-    Ok(Told::new(alloc))
 }
 
 // Appends the events that the end of a session makes on one instance.
