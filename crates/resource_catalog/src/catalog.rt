@@ -152,7 +152,7 @@ fn add(
     let index = commit.index();
     let slot = Slot {
         name: Some(of_slot),
-        resource: AnyResource::new(kind, index),
+        resource: AnyResource::new(*slots.allocator(), kind, index),
     };
     add_slot(slots, index, slot);
     add_name(names, own, Named { commit, kind });
