@@ -1,8 +1,8 @@
 //! Values and counters: the two resources that have one cell.
 #![tactic(auto)]
 
+mod content;
 mod counter;
-mod one;
 mod value;
 
 pub use counter::CounterCell;
