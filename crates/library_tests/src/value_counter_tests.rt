@@ -56,7 +56,7 @@ const VALUE: Life = Life {
 #[test]
 fn a_value_answers_as_its_table(rt: HostRuntime) {
     let alloc = rt.alloc();
-    let cells = lives(&rt, alloc, ValueCell::new(5), &VALUE);
+    let cells = lives(&rt, alloc, ValueCell::new(alloc, 5), &VALUE);
     is_one(&rt, alloc, cells, 10, Content::Text(word(&rt, alloc, b"e")));
 }
 
@@ -82,6 +82,6 @@ const COUNTER: Life = Life {
 #[test]
 fn a_counter_ends_at_both_ends_of_its_type(rt: HostRuntime) {
     let alloc = rt.alloc();
-    let cells = lives(&rt, alloc, CounterCell::new(5), &COUNTER);
+    let cells = lives(&rt, alloc, CounterCell::new(alloc, 5), &COUNTER);
     is_one(&rt, alloc, cells, 9, Content::Number(-1));
 }
