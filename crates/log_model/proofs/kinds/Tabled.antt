@@ -222,10 +222,10 @@ multimap_size m c s own = many_keys (gather pair_cmp (pick_in m pair_cell) c) �
 pub multimap_pairs : (m : ℕ) (c : Cells) → IsTrue (is_sorted place_cmp c) → AreOf Multimap m c
     → (es : List ((List ℕ × List ℕ) × Held)) × (c ≡ keyed_cells m pair_place es) × (keys (gather pair_cmp (pick_in m pair_cell) c) ≡ keys es)
 multimap_pairs m c s own =
-    let es = entries pair_total exact_pairs m Multimap pair_place pair_of stood pair_order pair_back c in
-    ( es
-    , cells_are pair_total exact_pairs m Multimap pair_place pair_of stood pair_order pair_back c (each_of Multimap m c s own)
-    , ap keys (read_is pair_total exact_pairs m Multimap pair_place pair_of stood pair_order pair_back pair_cell (λ k h. refl) c s own) ∙ all_keys es
+    let es = entries pair_total exact_pairs m Multimap pair_place pair_of stood pair_order pair_back c in (
+      es,
+      cells_are pair_total exact_pairs m Multimap pair_place pair_of stood pair_order pair_back c (each_of Multimap m c s own),
+      ap keys (read_is pair_total exact_pairs m Multimap pair_place pair_of stood pair_order pair_back pair_cell (λ k h. refl) c s own) ∙ all_keys es,
     )
 
 -- ---- whether there is any
