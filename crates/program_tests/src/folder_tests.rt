@@ -1,13 +1,13 @@
 // A log that is opened in an empty folder, and again after a crash.
-ghost use Rattle.std.specs.Prelude.{◌≡◌, ℕ, List, [], OnOk};
-ghost use Rattle.log_model.specs.plain.Admission.{Item};
-ghost use Rattle.copycat_tool.specs.Runs.{IsInOrder, IsInOrderFor};
+ghost use Rattle.std.specs.Prelude.{ℕ, List, []};
+ghost use Rattle.copycat_tool.specs.Runs.{IsInOrder};
 
 use crate::same;
-use copycat_tool::{crashed_folder_is_in_order, empty_folder_is_in_order, open_log};
+use copycat_tool::{empty_folder_is_in_order, open_log};
 use disk_memory::{MemoryDisk, Outcome};
+use disk_model::Disk;
 use host_recovery::{Answer, Host};
-use host_types::{Ask, LogName, NoMemory, Offer};
+use host_types::{Ask, LogName, Offer};
 use resource_catalog::Catalog;
 use std::alloc::Global;
 use std::process::Abort;
@@ -18,15 +18,6 @@ fn new_disk(alloc: Global) -> MemoryDisk
 {
     empty_folder_is_in_order::<MemoryDisk>();
     MemoryDisk::new(alloc)
-}
-
-/// A crash. A folder that was in order for a log is in order for what was left of it.
-fn crash(disk: &mut MemoryDisk, outcome: Outcome) -> Result<(), NoMemory>
-    ensures { (name : List ℕ) (log : List Item) (least : ℕ) → IsInOrder name (⟦<MemoryDisk as Disk>⟧.view disk.old) log least
-        → OnOk result (IsInOrderFor name (⟦<MemoryDisk as Disk>⟧.view disk.new) log least) }
-{
-    crashed_folder_is_in_order::<MemoryDisk>();
-    disk.crash(outcome)
 }
 
 fn open(
@@ -68,7 +59,7 @@ fn a_log_is_opened_in_an_empty_folder_and_after_a_crash(rt: HostRuntime) {
     ticks(&rt, alloc, &mut host, 1, 1);
     ticks(&rt, alloc, &mut host, 2, 2);
     let mut disk = host.close();
-    crash(&mut disk, Outcome::Old).expect(&rt, "memory");
+    disk.crash(Outcome::Old).expect(&rt, "memory");
     let host = open(&rt, alloc, disk, &name);
     same(&rt, host.last(), 2);
     same(&rt, host.now(), 2);
