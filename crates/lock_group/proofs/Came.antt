@@ -18,8 +18,7 @@ use Rattle.log_model.specs.plain.Plain.{head_of}
 use Rattle.log_model.specs.plain.Rows.{is_waiter, is_holder, granted}
 use Rattle.log_model.specs.kinds.Reading.{pick_in, values, waiter_cell}
 use Rattle.log_model.proofs.Lookups.{T_from}
-use Rattle.log_model.proofs.kinds.Gather.{each_cell, weaker_cell, none_some}
-use Rattle.log_model.proofs.kinds.Bridges.{put_below, and_T}
+use Rattle.log_model.proofs.kinds.Gather.{each_cell, weaker_cell, none_some, put_below, and_T}
 use Rattle.log_model.proofs.kinds.Waiting.{queued, there, WaitApart, sorted_queued, queued_waits, waits_queued, has_waiter, as_many_waiters}
 use Rattle.cell_table.specs.Arrivals.{is_waiter as is_waiting}
 use Rattle.cell_table.specs.Lookups.{IsFirstWaiter, AreInOrder, found}

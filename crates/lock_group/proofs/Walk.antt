@@ -16,9 +16,8 @@ use Rattle.host_types.specs.Cells.{Place, Cell_at, Held, Cells, cell_cmp, at, pl
 use Rattle.log_model.specs.plain.Plain.{Member, without_item}
 use Rattle.log_model.specs.kinds.Reading.{gather, listed, picked_first, pick_in, values, keys, text_in, member_in, member_of, listener_cell, listeners_in}
 use Rattle.log_model.proofs.Lookups.{found_from_any, any_from_found}
-use Rattle.log_model.proofs.kinds.Gather.{EachCell, none_some, read_at, sorted_gather, gathered_has}
-use Rattle.log_model.proofs.kinds.Keyed.{at_order}
-use Rattle.log_model.proofs.kinds.Listings.{picked_there, find_gathered, from_least, only_members, listening, listeners_from}
+use Rattle.log_model.proofs.kinds.Gather.{EachCell, none_some, read_at, sorted_gather, gathered_has, picked_there, find_gathered, at_order, only_members}
+use Rattle.log_model.proofs.kinds.Listings.{from_least, listening, listeners_from}
 use Rattle.cell_table.specs.Lookups.{and_above, cells_from, cells_above}
 use Rattle.lock_group.specs.Members.{members_in, members_from, members_above, member_seen, indexes_of, members_of as members_of_session, noted, noted_of, is_listening, before_listeners, is_of_session, told_left, told_by_cell}
 

@@ -131,7 +131,7 @@ fn waits(table: &CellTable, session: Index, id: u64) -> bool
 {
     table.in_order();
     let cell = Cell::Waiter { session, id };
-    let there = table.at(&cell).is_some();
+    let there = table.contains(&cell);
     drop(cell);
     there
 }

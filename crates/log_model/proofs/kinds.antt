@@ -1,8 +1,6 @@
 -- The laws of the nine kinds.
 pub mod AsPlain
-pub mod Bridges
 pub mod Gather
-pub mod Keyed
 pub mod KindLaws
 pub mod Listings
 pub mod Readings
@@ -11,5 +9,4 @@ pub mod RowStores
 pub mod ShownCloses
 pub mod ShownResources
 pub mod ShownRows
-pub mod Tabled
 pub mod Waiting

@@ -1,5 +1,5 @@
 -- The words of a key stand beside each other, from its least pair on.
-use Rattle.std.proofs.Common.{◌≡◌, ℕ, ◌+◌, Bool, true, false, cond, List, [], ◌∷◌, ◌++◌, ◌≤◌, map, length, take, take_all, append-nil, append_assoc, Option, Some, None, is_some, refl, sym, ap, subst, ◌∙◌, arith, Ordering, Less, Equal, Greater}
+use Rattle.std.proofs.Common.{◌≡◌, ℕ, ◌+◌, Bool, true, false, cond, List, [], ◌∷◌, ◌++◌, ◌≤◌, map, length, take, take_all, append-nil, append_assoc, Option, Some, None, is_some, refl, sym, ap, subst, ◌∙◌, arith, Ordering, Less, Equal, Greater, eq-eqb}
 use Rattle.std.specs.Prelude.{IsTrue, IfSome}
 use Rattle.std.specs.List.{filter, count_by, list_any}
 use Rattle.std.specs.Ordering.{is_eq, is_le, is_lt, eq_by_cmp, ordering_then}
@@ -11,16 +11,16 @@ use Rattle.std.proofs.lemmas.Option.{none-some}
 use mathlib.Core.Bool.{true≢false}
 use Rattle.host_types.specs.declared.entry.Kind.TheVariants.{Multimap}
 use Rattle.host_types.specs.declared.entry.Cell.{Cell}
+use Rattle.host_types.specs.declared.entry.Content.{Content}
 use Rattle.host_types.specs.declared.entry.Cell.TheVariants.{One, Named, Member, Pair, At, Waiter, Of}
-use Rattle.host_types.specs.Cells.{Place, Cell_at, Held, Cells, at, stands, cell_cmp, place_cmp, is_text, text_cmp}
+use Rattle.host_types.specs.Cells.{Place, Cell_at, Held, Cells, at, stands, cell_cmp, place_cmp, is_of_kind, is_text, text_cmp}
 use Rattle.host_types.specs.CellOrder.{cell_total}
 use Rattle.host_types.proofs.Places.{exact_texts}
 use Rattle.log_model.specs.plain.Plain.{pair_cmp}
-use Rattle.log_model.specs.kinds.Reading.{gather, pick_in, keys, pair_cell}
+use Rattle.log_model.specs.kinds.Reading.{gather, listed, picked_first, pick_in, keys, pair_cell}
 use Rattle.log_model.proofs.Lookups.{T_from}
 use Rattle.log_model.proofs.kinds.Gather.{EachCell, weaker_cell, each_cell}
-use Rattle.log_model.proofs.kinds.Bridges.{keyed_cells}
-use Rattle.log_model.proofs.kinds.Tabled.{AreOf, pair_place, multimap_pairs}
+use Rattle.log_model.proofs.kinds.Listings.{AreOf, pair_place, multimap_pairs}
 use Rattle.cell_table.specs.Pairs.{is_pair_of, is_spelled, least_word}
 use Rattle.cell_table.specs.Lookups.{cells_from, cells_above, and_above, AreInOrder}
 use Rattle.cell_table.proofs.Paired.{above_pairs}
@@ -30,18 +30,38 @@ use Rattle.multimap_resource.specs.Reading.{word_of, word_at, with_word, words_o
 
 -- ---- the words of a key among all pairs
 
+-- its place is that of a pair
+abbrev IsPair : ℕ → Place → Type 0
+IsPair m place = (p : List ℕ × List ℕ) × (place ≡ Cell_at m (pair_place p))
+
+pair_here : (m : ℕ) (cell : Cell) (content : Content) → is_of_kind Multimap cell content ≡ true → IsPair m (Cell_at m cell)
+pair_here m (Pair key word) content e = ((key, word), refl)
+pair_here m One content e = absurd (cc)
+pair_here m (Named key) content e = absurd (cc)
+pair_here m (Member word) content e = absurd (cc)
+pair_here m (At i) content e = absurd (cc)
+pair_here m (Waiter a b) content e = absurd (cc)
+pair_here m (Of a) content e = absurd (cc)
+
 pub words_are : (m : ℕ) (key : List ℕ) (c : Cells) → IsTrue (is_sorted place_cmp c) → AreOf Multimap m c → words_of key c ≡ map (λ p. p.1) (filter (λ p. is_text key p.0) (keys (gather pair_cmp (pick_in m pair_cell) c)))
 words_are m key c s own =
-    let x = multimap_pairs m c s own in
-    ap (words_of key) x.1 ∙ go x.0 ∙ ap (λ (ps : List (List ℕ × List ℕ)). map (λ (p : List ℕ × List ℕ). p.1) (filter (λ (p : List ℕ × List ℕ). is_text key p.0) ps)) (sym x.2)
+    go c (weaker_cell (λ e. at c e.0 ≡ Some e.1) (λ e. IsPair m e.0) here c (each_cell c (T_from _ s)))
+    ∙ ap (λ (ps : List (List ℕ × List ℕ)). map (λ (p : List ℕ × List ℕ). p.1) (filter (λ (p : List ℕ × List ℕ). is_text key p.0) ps)) (sym (multimap_pairs m c s))
   where
+    here : (e : Place × Held) → at c e.0 ≡ Some e.1 → IsPair m e.0
+    here e there = let is = own e.0 e.1 there in subst (IsPair m) (sym is.1) (pair_here m is.0 e.1.content is.2)
+
     one : (k w : List ℕ) (b : Bool) (rest : List (List ℕ × List ℕ)) → with_word (cond b (Some w) None) (map (λ (p : List ℕ × List ℕ). p.1) rest) ≡ map (λ (p : List ℕ × List ℕ). p.1) (cond b ((k, w) ∷ rest) rest)
     one k w true rest = refl
     one k w false rest = refl
 
-    go : (es : List ((List ℕ × List ℕ) × Held)) → words_of key (keyed_cells m pair_place es) ≡ map (λ (p : List ℕ × List ℕ). p.1) (filter (λ (p : List ℕ × List ℕ). is_text key p.0) (keys es))
-    go [] = refl
-    go (e ∷ es) = ap (with_word (cond (is_text key e.0.0) (Some e.0.1) None)) (go es) ∙ one e.0.0 e.0.1 (is_text key e.0.0) (filter (λ (p : List ℕ × List ℕ). is_text key p.0) (keys es))
+    go : (d : Cells) → EachCell (λ e. IsPair m e.0) d → words_of key d ≡ map (λ (p : List ℕ × List ℕ). p.1) (filter (λ (p : List ℕ × List ℕ). is_text key p.0) (keys (listed (pick_in m pair_cell) d)))
+    go [] h = refl
+    go (e ∷ d) h =
+        let p = h.0.0 in
+        let picked : pick_in m pair_cell e ≡ Some (p, tt) = ap (λ q. pick_in m pair_cell (q, e.1)) h.0.1 ∙ ap (λ b. cond b (pair_cell (pair_place p) e.1) None) (eq-eqb m m refl) in
+        (λ j. with_word (word_at key (h.0.1 j)) (go d h.1 j)) ∙ one p.0 p.1 (is_text key p.0) (filter (λ (q : List ℕ × List ℕ). is_text key q.0) (keys (listed (pick_in m pair_cell) d)))
+        ∙ sym (ap (λ o. map (λ (q : List ℕ × List ℕ). q.1) (filter (λ (q : List ℕ × List ℕ). is_text key q.0) (keys (picked_first o (listed (pick_in m pair_cell) d))))) picked)
 
 many_mapped : {A B : Type 0} (f : A → B) (xs : List A) → length (map f xs) ≡ length xs
 many_mapped f [] = refl

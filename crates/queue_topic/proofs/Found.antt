@@ -13,8 +13,8 @@ use Rattle.host_types.specs.Cells.{Place, Held, Cells, is_of_kind, is_text, at, 
 use Rattle.log_model.specs.plain.Plain.{head_of}
 use Rattle.log_model.specs.kinds.Reading.{pick_in, item_cell, listed, picked_first, keyed_by, text_in}
 use Rattle.log_model.proofs.Lookups.{T_from}
-use Rattle.log_model.proofs.kinds.Gather.{EachCell, each_cell, weaker_cell}
-use Rattle.log_model.proofs.kinds.Listings.{items_from, as_many_items}
+use Rattle.log_model.proofs.kinds.Gather.{EachCell}
+use Rattle.log_model.proofs.kinds.Listings.{AreOf, each_picked, keyed_some, items_from, as_many_items}
 use Rattle.cell_table.specs.Lookups.{and_above, cells_from, cells_above, AreInOrder}
 use Rattle.queue_topic.specs.Items.{items_in, item_found, with_word}
 
@@ -24,10 +24,6 @@ with_text : (i : ℕ) (content : Content) → is_of_kind Queue (At i) content �
 with_text i (Text word) e = refl
 with_text i Mark e = absurd (cc)
 with_text i (Number n) e = absurd (cc)
-
-keyed_some : (i : ℕ) (o : Option (List ℕ)) → is_some o ≡ true → is_some (keyed_by i o) ≡ true
-keyed_some i None e = absurd (cc)
-keyed_some i (Some x) e = refl
 
 of_queue : (cell : Cell) (held : Held) → is_of_kind Queue cell held.content ≡ true → is_some (item_cell cell held) ≡ true
 of_queue (At i) held e = keyed_some i (text_in held.content) (with_text i held.content e)
@@ -42,14 +38,7 @@ abbrev HasItem : ℕ → Place × Held → Type 0
 HasItem m e = is_some (pick_in m item_cell e) ≡ true
 
 queue_cells : (kind : Kind) (m : ℕ) (c : Cells) → kind ≡ Queue → AreInOrder kind m c → EachCell (HasItem m) c
-queue_cells kind m c queue order = weaker_cell (λ e. at c e.0 ≡ Some e.1) (HasItem m) each c (each_cell c (T_from _ order.rise))
-  where
-    each : (e : Place × Held) → at c e.0 ≡ Some e.1 → HasItem m e
-    each e there =
-        let own = order.own e.0 e.1 there in
-        ap (λ p. is_some (pick_in m item_cell (p, e.1))) own.1
-        ∙ ap (λ b. is_some (cond b (item_cell own.0 e.1) None)) (eq-eqb m m refl)
-        ∙ of_queue own.0 e.1 (ap (λ k. is_of_kind k own.0 e.1.content) (sym queue) ∙ own.2)
+queue_cells kind m c queue order = each_picked Queue m item_cell of_queue c order.rise (subst (λ k. AreOf k m c) queue order.own)
 
 pub queue_size : (kind : Kind) (m : ℕ) (c : Cells) → kind ≡ Queue → AreInOrder kind m c → length (items_in m c) ≡ length c
 queue_size kind m c queue order = as_many_items m c (T_from _ order.rise) (queue_cells kind m c queue order)

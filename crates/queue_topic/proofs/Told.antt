@@ -11,8 +11,7 @@ use Rattle.std.specs.FinMap.Entries.{is_sorted}
 use Rattle.log_model.specs.plain.Rows.{tells_all}
 use Rattle.log_model.specs.kinds.Reading.{pick_in, listener_cell, listeners_in, listed, picked_first, keys}
 use Rattle.log_model.proofs.Lookups.{T_from}
-use Rattle.log_model.proofs.kinds.Gather.{each_cell, weaker_cell}
-use Rattle.log_model.proofs.kinds.Listings.{listening, listeners_from, as_many_listeners}
+use Rattle.log_model.proofs.kinds.Listings.{AreOf, each_picked, listening, listeners_from, as_many_listeners}
 use Rattle.cell_table.specs.Lookups.{and_above, cells_from, cells_above, AreInOrder}
 
 -- the events for those who listen by these cells
@@ -22,10 +21,6 @@ told_of m event cells = tells_all (listening m cells) event
 -- told so far, with what is still to be told
 abbrev pub IsToldFrom : ℕ → Cells → Event → List (ℕ × Event) → Option (Cell × Held) → Type 0
 IsToldFrom m cells event told next = told ++ told_of m event (and_above m cells next) ≡ tells_all (listeners_in m cells) event
-
-pub some_mapped : {A B : Type 0} (f : A → B) (o : Option A) → is_some (option_map f o) ≡ is_some o
-some_mapped f None = refl
-some_mapped f (Some x) = refl
 
 none_left : {A : Type 0} (xs : List A) → xs ++ [] ≡ xs
 none_left [] = refl
@@ -73,11 +68,4 @@ of_topic (At i) held e = absurd (cc)
 of_topic (Waiter a b) held e = absurd (cc)
 
 pub topic_size : (kind : Kind) (m : ℕ) (c : Cells) → kind ≡ Topic → AreInOrder kind m c → length (listeners_in m c) ≡ length c
-topic_size kind m c topic order = as_many_listeners m c (T_from _ order.rise) (weaker_cell (λ e. at c e.0 ≡ Some e.1) (λ e. is_some (pick_in m listener_cell e) ≡ true) each c (each_cell c (T_from _ order.rise)))
-  where
-    each : (e : Place × Held) → at c e.0 ≡ Some e.1 → is_some (pick_in m listener_cell e) ≡ true
-    each e there =
-        let own = order.own e.0 e.1 there in
-        ap (λ p. is_some (pick_in m listener_cell (p, e.1))) own.1
-        ∙ ap (λ b. is_some (cond b (listener_cell own.0 e.1) None)) (eq-eqb m m refl)
-        ∙ of_topic own.0 e.1 (ap (λ k. is_of_kind k own.0 e.1.content) (sym topic) ∙ own.2)
+topic_size kind m c topic order = as_many_listeners m c (T_from _ order.rise) (each_picked Topic m listener_cell of_topic c order.rise (subst (λ k. AreOf k m c) topic order.own))

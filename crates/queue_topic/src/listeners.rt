@@ -17,7 +17,7 @@ pub fn listens(table: &CellTable, session: Index) -> bool
 {
     table.in_order();
     let cell = Cell::Of(session);
-    let there = table.at(&cell).is_some();
+    let there = table.contains(&cell);
     drop(cell);
     there
 }

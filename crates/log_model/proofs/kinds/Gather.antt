@@ -1,23 +1,24 @@
--- Lists that are gathered of the cells: what each kind reads where its cells show it. For `what_is_shown_is_read`.
-use Rattle.std.proofs.Common.{◌≡◌, ℕ, Bool, true, false, cond, ◌&&◌, ◌||◌, ◌==◌, T, List, [], ◌∷◌, Option, Some, None, is_some, refl, sym, ap, subst, ◌∙◌, eq-eqb, eqb-true, Ordering}
+-- Lists that are gathered of the cells: each key at its own place, and in the order of the cells; and what each kind reads where its cells show it. For
+-- `what_is_shown_is_read`.
+use Rattle.std.proofs.Common.{◌≡◌, ℕ, Bool, true, false, cond, ◌&&◌, ◌||◌, ◌==◌, T, List, [], ◌∷◌, Option, Some, None, is_some, refl, sym, ap, subst, ◌∙◌, eq-eqb, eqb-true, Ordering, length, suc, Less, Equal, Greater}
 use Rattle.std.proofs.lemmas.Bool.{and_parts, and_from, or_left, or_right}
-use Rattle.std.specs.List.{list_any}
+use Rattle.std.specs.List.{filter, list_any}
 use Rattle.std.specs.Option.{option_map, option_map_or}
 use Rattle.std.specs.FinMap.{find, is_sorted, IsAntisymmetric, nat_cmp-IsAntisymmetric}
-use Rattle.std.specs.FinMap.Entries.{below_all, find-put, is_some-find, is_sorted-put, same_entries}
-use Rattle.std.specs.Ordering.{nat_cmp, eq_by_cmp}
-use Rattle.std.specs.Cmp.{IsTotalOrder, on_total, then_total, nat_cmp_total}
+use Rattle.std.specs.FinMap.Entries.{put, below_all, by_order, find-put, is_some-find, is_sorted-put, same_entries}
+use Rattle.std.specs.Ordering.{nat_cmp, ordering_then, is_eq, is_lt, eq_by_cmp}
+use Rattle.std.specs.Cmp.{IsTotalOrder, on_total, then_total, nat_cmp_total, tied_itself}
 use Rattle.std.specs.Cmp.Lexicographic.{nat_list_cmp_total}
 use Rattle.host_types.specs.declared.entry.Cell.{Cell}
 use Rattle.host_types.specs.declared.entry.Cell.TheVariants.{One, Named, Member as Member_cell, Pair, At, Waiter, Of}
 use Rattle.host_types.specs.declared.entry.Content.{Content}
 use Rattle.host_types.specs.declared.entry.Content.TheVariants.{Text}
 use Rattle.host_types.specs.Ranges.{owner_number}
-use Rattle.host_types.specs.Cells.{Place, Name_at, Cell_at, Register_at, Alive_at, Held, text_cmp, place_cmp, Cells, at, stands}
+use Rattle.host_types.specs.Cells.{Place, Name_at, Cell_at, Register_at, Alive_at, Held, text_cmp, cell_cmp, place_cmp, Cells, at, stands}
 use Rattle.log_model.specs.plain.Plain.{Member, keyed, has_item, pair_cmp}
 use Rattle.log_model.specs.plain.Rows.{is_waiter}
 use Rattle.log_model.specs.kinds.Shows.{content_at, index_at, member_at, member_cell, by_index, by_holding, Listens}
-use Rattle.log_model.specs.kinds.Reading.{picked, gather, pick_in, keys, values, text_in, text_of, keyed_by, map_cell, pair_cell, word_cell, item_cell, waiter_cell, member_in, member_of, listener_cell, listeners_in}
+use Rattle.log_model.specs.kinds.Reading.{picked, gather, pick_in, keys, values, text_in, text_of, keyed_by, map_cell, pair_cell, word_cell, item_cell, waiter_cell, member_in, member_of, listener_cell, listeners_in, picked_first, listed}
 use Rattle.host_types.proofs.Places.{place_total, exact_places, exact_texts, tie}
 use Rattle.log_model.proofs.Lookups.{T_from, tied_true, tied_same, below_missing, found_from_any, any_from_found}
 
@@ -143,6 +144,53 @@ module _ {K X : Type 0} {R : K → K → Ordering} (total : IsTotalOrder R) (exa
       go k None e = missing k e (find R k L) refl
       go k (Some y) e = e ∙ sym (value_gather L k y c each e)
 
+-- ---- in the order of the cells
+
+pub and_T : (a b : Bool) → T a → T b → T (a && b)
+and_T true b h k = k
+and_T false b h k = absurd h
+
+less : (o : Ordering) → T (is_lt o) → o ≡ Less
+less Less h = refl
+less Equal h = absurd h
+less Greater h = absurd h
+
+module _ {K X : Type 0} (R : K → K → Ordering) where
+  pub put_below : (k : K) (x : X) (es : List (K × X)) → T (below_all R k es) → put R k x es ≡ (k, x) ∷ es
+  put_below k x [] h = refl
+  put_below k x (e ∷ es) h = ap (λ o. by_order o ((k, x) ∷ e ∷ es) ((e.0, x) ∷ es) (e ∷ put R k x es)) (less (R k e.0) (T_both _ _ h).0)
+
+  -- where the keys rise as the cells stand, it is read in that order
+  pub gather_listed : (pick : Place × Held → Option (K × X)) (c : Cells) → T (is_sorted R (listed pick c)) → gather R pick c ≡ listed pick c
+  gather_listed pick [] s = refl
+  gather_listed pick (e ∷ c) s =
+      elim (pick e) as (λ o. T (is_sorted R (picked_first o (listed pick c))) → picked R o (gather R pick c) ≡ picked_first o (listed pick c)) [
+        | None ↦ λ s. gather_listed pick c s
+        | Some w ↦ λ s. let b = T_both _ _ s in ap (put R w.0 w.1) (gather_listed pick c b.1) ∙ put_below w.0 w.1 (listed pick c) b.0
+      ] s
+
+module _ {K X : Type 0} (pick : Place × Held → Option (K × X)) where
+  -- the cells that aren't picked may be left out
+  pub listed_kept : (q : Place × Held → Bool) (c : Cells) → ((e : Place × Held) (w : K × X) → pick e ≡ Some w → q e ≡ true) → listed pick (filter q c) ≡ listed pick c
+  listed_kept q [] all = refl
+  listed_kept q (e ∷ c) all =
+      let rest = listed_kept q c all in
+      elim (pick e) as (λ o. pick e ≡ o → listed pick (cond (q e) (e ∷ filter q c) (filter q c)) ≡ picked_first o (listed pick c)) [
+        | None ↦ λ t. skipped (q e) t ∙ rest
+        | Some w ↦ λ t. ap (λ b. listed pick (cond b (e ∷ filter q c) (filter q c))) (all e w t) ∙ (λ j. picked_first (t j) (rest j))
+      ] refl
+    where
+      skipped : (b : Bool) → pick e ≡ None → listed pick (cond b (e ∷ filter q c) (filter q c)) ≡ listed pick (filter q c)
+      skipped true t = ap (λ o. picked_first o (listed pick (filter q c))) t
+      skipped false t = refl
+
+  -- where each cell is picked, there are as many
+  pub each_listed : (c : Cells) → EachCell (λ e. is_some (pick e) ≡ true) c → length (listed pick c) ≡ length c
+  each_listed [] h = refl
+  each_listed (e ∷ c) h =
+      let rest = each_listed c h.1 in
+      elim (pick e) as (λ o. is_some o ≡ true → length (picked_first o (listed pick c)) ≡ suc (length c)) [ None ↦ λ t. absurd (cc) | Some w ↦ λ t. ap suc rest ] h.0
+
 -- ---- an instance whose cells stand one to a key
 
 pub keyed_back : {K X : Type 0} (k : K) (x : X) (o : Option X) → keyed_by k o ≡ Some (k, x) → o ≡ Some x
@@ -157,35 +205,116 @@ abbrev pub read_at : {K X : Type 0} → (K → Held → Option X) → K → Opti
 read_at read k None = None
 read_at read k (Some h) = read k h
 
+unkeyed_none : {K X : Type 0} (k : K) (o : Option X) → keyed_by k o ≡ None → o ≡ None
+unkeyed_none k None e = refl
+unkeyed_none k (Some x) e = absurd (none_some (sym e))
+
+-- ---- the order of the keys is that of their cells
+
+then_nothing : (o : Ordering) → ordering_then o Equal ≡ o
+then_nothing Less = refl
+then_nothing Equal = refl
+then_nothing Greater = refl
+
+pub named_order : (k q : List ℕ) → cell_cmp (Named k) (Named q) ≡ text_cmp k q
+named_order k q = then_nothing (text_cmp k q)
+
+pub member_order : (k q : List ℕ) → cell_cmp (Member_cell k) (Member_cell q) ≡ text_cmp k q
+member_order k q = then_nothing (text_cmp k q)
+
+pub pair_order : (k q : List ℕ × List ℕ) → cell_cmp (Pair k.0 k.1) (Pair q.0 q.1) ≡ pair_cmp k q
+pair_order k q = ap (ordering_then (text_cmp k.0 q.0)) (then_nothing (text_cmp k.1 q.1))
+
+pub at_order : (k q : ℕ) → cell_cmp (At k) (At q) ≡ nat_cmp k q
+at_order k q = then_nothing (nat_cmp k q)
+
+pub of_order : (k q : ℕ) → cell_cmp (Of k) (Of q) ≡ nat_cmp k q
+of_order k q = then_nothing (nat_cmp k q)
+
 module _ {K X : Type 0} {R : K → K → Ordering} (total : IsTotalOrder R) (exact : IsAntisymmetric R) (m : ℕ) (pick : Cell → Held → Option (K × X)) (place : K → Cell) (read : K → Held → Option X)
-    (here : (k : K) (h : Held) → pick (place k) h ≡ keyed_by k (read k h)) (only : (cell : Cell) (h : Held) (k : K) (x : X) → pick cell h ≡ Some (k, x) → cell ≡ place k) where
-  pub entries_are : (L : List (K × X)) (c : Cells) → T (is_sorted place_cmp c) → T (is_sorted R L) → ((k : K) → read_at read k (at c (Cell_at m (place k))) ≡ find R k L) → gather R (pick_in m pick) c ≡ L
-  entries_are L c s t shown = gather_is total exact (pick_in m pick) L c s t sound full
+    (order : (k q : K) → cell_cmp (place k) (place q) ≡ R k q) (here : (k : K) (h : Held) → pick (place k) h ≡ keyed_by k (read k h)) (only : (cell : Cell) (h : Held) (k : K) (x : X) → pick cell h ≡ Some (k, x) → cell ≡ place k) where
+  pub placed : (k q : K) → place_cmp (Cell_at m (place k)) (Cell_at m (place q)) ≡ R k q
+  placed k q = ap (λ o. ordering_then o (cell_cmp (place k) (place q))) (tied_itself nat_cmp_total m) ∙ order k q
+
+  -- what is picked of a cell stands at the place of its key
+  pub picked_there : (e : Place × Held) (w : K × X) → pick_in m pick e ≡ Some w → (e.0 ≡ Cell_at m (place w.0)) × (read w.0 e.1 ≡ Some w.1)
+  picked_there (Cell_at other cell, h) w e = go (m == other) refl e
     where
-      of_cell : (cell : Cell) (h : Held) (k : K) (x : X) → at c (Cell_at m cell) ≡ Some h → pick cell h ≡ Some (k, x) → find R k L ≡ Some x
-      of_cell cell h k x there e =
-          let is : cell ≡ place k = only cell h k x e in
-          let content : read k h ≡ Some x = keyed_back k x (read k h) (sym (here k h) ∙ (λ j. pick (sym is j) h) ∙ e) in
-          sym (shown k) ∙ (λ j. read_at read k (at c (Cell_at m (sym is j)))) ∙ ap (read_at read k) there ∙ content
+      go : (b : Bool) → (m == other) ≡ b → cond b (pick cell h) None ≡ Some w → (Cell_at other cell ≡ Cell_at m (place w.0)) × (read w.0 h ≡ Some w.1)
+      go true t e =
+          let is : cell ≡ place w.0 = only cell h w.0 w.1 e in
+          ((λ j. Cell_at (sym (eqb-true m other t) j) (is j)), keyed_back w.0 w.1 (read w.0 h) (sym (here w.0 h) ∙ (λ j. pick (sym is j) h) ∙ e))
+      go false t e = absurd (none_some e)
+  picked_there (Name_at name, h) w e = absurd (none_some e)
+  picked_there (Register_at session, h) w e = absurd (none_some e)
+  picked_there (Alive_at session, h) w e = absurd (none_some e)
 
-      sound : (p : Place) (h : Held) (k : K) (x : X) → at c p ≡ Some h → pick_in m pick (p, h) ≡ Some (k, x) → find R k L ≡ Some x
-      sound (Cell_at instance cell) h k x there e =
-          elim (m == instance) as (λ b. (m == instance) ≡ b → cond b (pick cell h) None ≡ Some (k, x) → find R k L ≡ Some x) [
-            | true ↦ λ b e. of_cell cell h k x (subst (λ n. at c (Cell_at n cell) ≡ Some h) (sym (eqb-true m instance b)) there) e
-            | false ↦ λ b e. absurd (none_some e)
-          ] refl e
-      sound (Name_at name) h k x there e = absurd (none_some e)
-      sound (Register_at session) h k x there e = absurd (none_some e)
-      sound (Alive_at session) h k x there e = absurd (none_some e)
+  -- the cell of a key that isn't picked has nothing to be read
+  unpicked : (e : Place × Held) (k : K) → e.0 ≡ Cell_at m (place k) → pick_in m pick e ≡ None → read k e.1 ≡ None
+  unpicked e k is none = unkeyed_none k (read k e.1) (sym (here k e.1) ∙ sym (ap (λ b. cond b (pick (place k) e.1) None) (eq-eqb m m refl)) ∙ (λ j. pick_in m pick (sym is j, e.1)) ∙ none)
 
-      full : (k : K) (x : X) → find R k L ≡ Some x → (p : Place) × (h : Held) × (at c p ≡ Some h) × (pick_in m pick (p, h) ≡ Some (k, x))
-      full k x f = go (at c (Cell_at m (place k))) refl
+  -- a key is looked up at its place
+  pub find_gathered : (k : K) (c : Cells) → T (is_sorted place_cmp c) → find R k (gather R (pick_in m pick) c) ≡ read_at read k (at c (Cell_at m (place k)))
+  find_gathered k [] s = refl
+  find_gathered k (e ∷ c) s =
+      let rest = find_gathered k c (T_both _ _ s).1 in
+      elim (pick_in m pick e) as (λ o. pick_in m pick e ≡ o → find R k (picked R o (gather R (pick_in m pick) c)) ≡ read_at read k (cond (eq_by_cmp place_cmp (Cell_at m (place k)) e.0) (Some e.1) (at c (Cell_at m (place k))))) [
+        | None ↦ λ t. missed (eq_by_cmp place_cmp (Cell_at m (place k)) e.0) refl t (T_both _ _ s).0 rest
+        | Some w ↦ λ t. find-put R total k w.0 w.1 (gather R (pick_in m pick) c) ∙ hit w t rest (eq_by_cmp R k w.0) refl
+      ] refl
+    where
+      missed : (b : Bool) → eq_by_cmp place_cmp (Cell_at m (place k)) e.0 ≡ b → pick_in m pick e ≡ None → T (below_all place_cmp e.0 c) → find R k (gather R (pick_in m pick) c) ≡ read_at read k (at c (Cell_at m (place k)))
+          → find R k (gather R (pick_in m pick) c) ≡ read_at read k (cond b (Some e.1) (at c (Cell_at m (place k))))
+      missed true t none low rest =
+          let is : Cell_at m (place k) ≡ e.0 = tied_same place_total exact_places (Cell_at m (place k)) e.0 t in
+          rest ∙ ap (read_at read k) (ap (at c) is ∙ below_missing place_cmp e.0 c low) ∙ sym (unpicked e k (sym is) none)
+      missed false t none low rest = rest
+
+      hit : (w : K × X) → pick_in m pick e ≡ Some w → find R k (gather R (pick_in m pick) c) ≡ read_at read k (at c (Cell_at m (place k))) → (b : Bool) → eq_by_cmp R k w.0 ≡ b
+          → cond b (Some w.1) (find R k (gather R (pick_in m pick) c)) ≡ read_at read k (cond (eq_by_cmp place_cmp (Cell_at m (place k)) e.0) (Some e.1) (at c (Cell_at m (place k))))
+      hit w t rest b tie =
+          let there = picked_there e w t in
+          let same : eq_by_cmp place_cmp (Cell_at m (place k)) e.0 ≡ b = ap (λ p. eq_by_cmp place_cmp (Cell_at m (place k)) p) there.0 ∙ ap is_eq (placed k w.0) ∙ tie in
+          found w there.1 rest b tie ∙ ap (λ b. read_at read k (cond b (Some e.1) (at c (Cell_at m (place k))))) (sym same)
         where
-          go : (o : Option Held) → at c (Cell_at m (place k)) ≡ o → (p : Place) × (h : Held) × (at c p ≡ Some h) × (pick_in m pick (p, h) ≡ Some (k, x))
-          go None e = let none : None ≡ Some x = ap (read_at read k) (sym e) ∙ shown k ∙ f in absurd (none_some none)
-          go (Some h) e =
-              let content : read k h ≡ Some x = ap (read_at read k) (sym e) ∙ shown k ∙ f in
-              (Cell_at m (place k), h, e, ap (λ b. cond b (pick (place k) h) None) (eq-eqb m m refl) ∙ here k h ∙ ap (keyed_by k) content)
+          found : (w : K × X) → read w.0 e.1 ≡ Some w.1 → find R k (gather R (pick_in m pick) c) ≡ read_at read k (at c (Cell_at m (place k))) → (b : Bool) → eq_by_cmp R k w.0 ≡ b
+              → cond b (Some w.1) (find R k (gather R (pick_in m pick) c)) ≡ read_at read k (cond b (Some e.1) (at c (Cell_at m (place k))))
+          found w is rest true tie = sym is ∙ (λ j. read (sym (tied_same total exact k w.0 tie) j) e.1)
+          found w is rest false tie = rest
+
+  -- whether a key is there
+  pub has_key : (k : K) (c : Cells) → T (is_sorted place_cmp c) → has_item R k (keys (gather R (pick_in m pick) c)) ≡ is_some (read_at read k (at c (Cell_at m (place k))))
+  has_key k c s = sym (is_some-find R k (gather R (pick_in m pick) c)) ∙ ap is_some (find_gathered k c s)
+
+  -- so what is gathered is any list that has the same at each key
+  pub entries_are : (L : List (K × X)) (c : Cells) → T (is_sorted place_cmp c) → T (is_sorted R L) → ((k : K) → read_at read k (at c (Cell_at m (place k))) ≡ find R k L) → gather R (pick_in m pick) c ≡ L
+  entries_are L c s t shown = same_entries R total exact (gather R (pick_in m pick) c) L (sorted_gather total exact (pick_in m pick) c) t (λ k. find_gathered k c s ∙ shown k)
+
+  below_listed : (k : K) (c : Cells) → T (below_all place_cmp (Cell_at m (place k)) c) → T (below_all R k (listed (pick_in m pick) c))
+  below_listed k [] h = tt
+  below_listed k (e ∷ c) h =
+      let b = T_both _ _ h in
+      elim (pick_in m pick e) as (λ o. pick_in m pick e ≡ o → T (below_all R k (picked_first o (listed (pick_in m pick) c)))) [
+        | None ↦ λ t. below_listed k c b.1
+        | Some w ↦ λ t. and_T (is_lt (R k w.0)) _ (subst (λ o. T (is_lt o)) (ap (place_cmp (Cell_at m (place k))) (picked_there e w t).0 ∙ placed k w.0) b.0) (below_listed k c b.1)
+      ] refl
+
+  pub sorted_listed : (c : Cells) → T (is_sorted place_cmp c) → T (is_sorted R (listed (pick_in m pick) c))
+  sorted_listed [] s = tt
+  sorted_listed (e ∷ c) s =
+      let b = T_both _ _ s in
+      elim (pick_in m pick e) as (λ o. pick_in m pick e ≡ o → T (is_sorted R (picked_first o (listed (pick_in m pick) c)))) [
+        | None ↦ λ t. sorted_listed c b.1
+        | Some w ↦ λ t. and_T (below_all R w.0 (listed (pick_in m pick) c)) _ (below_listed w.0 c (subst (λ p. T (below_all place_cmp p c)) (picked_there e w t).0 b.0)) (sorted_listed c b.1)
+      ] refl
+
+  -- it is read in the order of the cells
+  pub in_order : (c : Cells) → T (is_sorted place_cmp c) → gather R (pick_in m pick) c ≡ listed (pick_in m pick) c
+  in_order c s = gather_listed R (pick_in m pick) c (sorted_listed c s)
+
+  -- where each cell is picked, there are as many
+  pub as_many : (c : Cells) → T (is_sorted place_cmp c) → EachCell (λ e. is_some (pick_in m pick e) ≡ true) c → length (gather R (pick_in m pick) c) ≡ length c
+  as_many c s own = ap length (in_order c s) ∙ each_listed (pick_in m pick) c own
 
 -- what is shown by its standing alone
 
@@ -207,10 +336,10 @@ read_stood k None = refl
 read_stood k (Some h) = refl
 
 module _ {K : Type 0} {R : K → K → Ordering} (total : IsTotalOrder R) (exact : IsAntisymmetric R) (m : ℕ) (pick : Cell → Held → Option (K × Unit {0})) (place : K → Cell)
-    (here : (k : K) (h : Held) → pick (place k) h ≡ Some (k, tt)) (only : (cell : Cell) (h : Held) (k : K) (x : Unit {0}) → pick cell h ≡ Some (k, x) → cell ≡ place k) where
+    (order : (k q : K) → cell_cmp (place k) (place q) ≡ R k q) (here : (k : K) (h : Held) → pick (place k) h ≡ Some (k, tt)) (only : (cell : Cell) (h : Held) (k : K) (x : Unit {0}) → pick cell h ≡ Some (k, x) → cell ≡ place k) where
   pub keys_are : (xs : List K) (c : Cells) → T (is_sorted place_cmp c) → is_sorted R (keyed xs) ≡ true → ((k : K) → stands c (Cell_at m (place k)) ≡ has_item R k xs) → keys (gather R (pick_in m pick) c) ≡ xs
   keys_are xs c s sorted shown =
-      ap keys (entries_are total exact m pick place stood here only (keyed xs) c s (T_from _ sorted) (λ k. same_unit _ _ (read_stood k (at c (Cell_at m (place k))) ∙ shown k ∙ sym (is_some-find R k (keyed xs) ∙ ap (list_any (eq_by_cmp R k)) (unkeyed xs)))))
+      ap keys (entries_are total exact m pick place stood order here only (keyed xs) c s (T_from _ sorted) (λ k. same_unit _ _ (read_stood k (at c (Cell_at m (place k))) ∙ shown k ∙ sym (is_some-find R k (keyed xs) ∙ ap (list_any (eq_by_cmp R k)) (unkeyed xs)))))
       ∙ unkeyed xs
 
 -- ---- the kinds
@@ -222,48 +351,48 @@ text_back (Some word) = refl
 abbrev pub word_of : {K : Type 0} → K → Held → Option (List ℕ)
 word_of k h = text_in h.content
 
-read_word : {K : Type 0} (k : K) (o : Option Held) → read_at word_of k o ≡ text_of (option_map (λ (h : Held). h.content) o)
+pub read_word : {K : Type 0} (k : K) (o : Option Held) → read_at word_of k o ≡ text_of (option_map (λ (h : Held). h.content) o)
 read_word k None = refl
 read_word k (Some h) = refl
 
 pub value_is_read : (m : ℕ) (c : Cells) (cur : Option (List ℕ)) → content_at c (Cell_at m One) ≡ option_map Text cur → text_of (content_at c (Cell_at m One)) ≡ cur
 value_is_read m c cur shown = ap text_of shown ∙ text_back cur
 
+pub only_named : (cell : Cell) (h : Held) (k : List ℕ) (x : List ℕ) → map_cell cell h ≡ Some (k, x) → cell ≡ Named k
+only_named (Named key) h k x e = ap Named (keyed_key key k x (text_in h.content) e)
+only_named One h k x e = absurd (none_some e)
+only_named (Member_cell word) h k x e = absurd (none_some e)
+only_named (Pair key word) h k x e = absurd (none_some e)
+only_named (At i) h k x e = absurd (none_some e)
+only_named (Waiter a b) h k x e = absurd (none_some e)
+only_named (Of session) h k x e = absurd (none_some e)
+
 pub pairs_are : (m : ℕ) (c : Cells) (pairs : List (List ℕ × List ℕ)) → T (is_sorted place_cmp c) → is_sorted text_cmp pairs ≡ true → ((key : List ℕ) → content_at c (Cell_at m (Named key)) ≡ option_map Text (find text_cmp key pairs)) → gather text_cmp (pick_in m map_cell) c ≡ pairs
-pairs_are m c pairs s sorted shown = entries_are nat_list_cmp_total exact_texts m map_cell Named word_of (λ k h. refl) only pairs c s (T_from _ sorted) (λ k. read_word k (at c (Cell_at m (Named k))) ∙ ap text_of (shown k) ∙ text_back (find text_cmp k pairs))
-  where
-    only : (cell : Cell) (h : Held) (k : List ℕ) (x : List ℕ) → map_cell cell h ≡ Some (k, x) → cell ≡ Named k
-    only (Named key) h k x e = ap Named (keyed_key key k x (text_in h.content) e)
-    only One h k x e = absurd (none_some e)
-    only (Member_cell word) h k x e = absurd (none_some e)
-    only (Pair key word) h k x e = absurd (none_some e)
-    only (At i) h k x e = absurd (none_some e)
-    only (Waiter a b) h k x e = absurd (none_some e)
-    only (Of session) h k x e = absurd (none_some e)
+pairs_are m c pairs s sorted shown = entries_are nat_list_cmp_total exact_texts m map_cell Named word_of named_order (λ k h. refl) only_named pairs c s (T_from _ sorted) (λ k. read_word k (at c (Cell_at m (Named k))) ∙ ap text_of (shown k) ∙ text_back (find text_cmp k pairs))
+
+pub only_items : (cell : Cell) (h : Held) (k : ℕ) (x : List ℕ) → item_cell cell h ≡ Some (k, x) → cell ≡ At k
+only_items (At i) h k x e = ap At (keyed_key i k x (text_in h.content) e)
+only_items One h k x e = absurd (none_some e)
+only_items (Named key) h k x e = absurd (none_some e)
+only_items (Member_cell word) h k x e = absurd (none_some e)
+only_items (Pair key word) h k x e = absurd (none_some e)
+only_items (Waiter a b) h k x e = absurd (none_some e)
+only_items (Of session) h k x e = absurd (none_some e)
 
 pub items_are : (m : ℕ) (c : Cells) (items : List (ℕ × List ℕ)) → T (is_sorted place_cmp c) → is_sorted nat_cmp items ≡ true → ((i : ℕ) → content_at c (Cell_at m (At i)) ≡ option_map Text (find nat_cmp i items)) → gather nat_cmp (pick_in m item_cell) c ≡ items
-items_are m c items s sorted shown = entries_are nat_cmp_total nat_cmp-IsAntisymmetric m item_cell At word_of (λ k h. refl) only items c s (T_from _ sorted) (λ k. read_word k (at c (Cell_at m (At k))) ∙ ap text_of (shown k) ∙ text_back (find nat_cmp k items))
-  where
-    only : (cell : Cell) (h : Held) (k : ℕ) (x : List ℕ) → item_cell cell h ≡ Some (k, x) → cell ≡ At k
-    only (At i) h k x e = ap At (keyed_key i k x (text_in h.content) e)
-    only One h k x e = absurd (none_some e)
-    only (Named key) h k x e = absurd (none_some e)
-    only (Member_cell word) h k x e = absurd (none_some e)
-    only (Pair key word) h k x e = absurd (none_some e)
-    only (Waiter a b) h k x e = absurd (none_some e)
-    only (Of session) h k x e = absurd (none_some e)
+items_are m c items s sorted shown = entries_are nat_cmp_total nat_cmp-IsAntisymmetric m item_cell At word_of at_order (λ k h. refl) only_items items c s (T_from _ sorted) (λ k. read_word k (at c (Cell_at m (At k))) ∙ ap text_of (shown k) ∙ text_back (find nat_cmp k items))
+
+pub only_words : (cell : Cell) (h : Held) (k : List ℕ) (x : Unit {0}) → word_cell cell h ≡ Some (k, x) → cell ≡ Member_cell k
+only_words (Member_cell word) h k x e = ap Member_cell (keyed_key word k x (Some tt) e)
+only_words One h k x e = absurd (none_some e)
+only_words (Named key) h k x e = absurd (none_some e)
+only_words (Pair key word) h k x e = absurd (none_some e)
+only_words (At i) h k x e = absurd (none_some e)
+only_words (Waiter a b) h k x e = absurd (none_some e)
+only_words (Of session) h k x e = absurd (none_some e)
 
 pub words_are : (m : ℕ) (c : Cells) (words : List (List ℕ)) → T (is_sorted place_cmp c) → is_sorted text_cmp (keyed words) ≡ true → ((word : List ℕ) → stands c (Cell_at m (Member_cell word)) ≡ has_item text_cmp word words) → keys (gather text_cmp (pick_in m word_cell) c) ≡ words
-words_are m c words s sorted shown = keys_are nat_list_cmp_total exact_texts m word_cell Member_cell (λ k h. refl) only words c s sorted shown
-  where
-    only : (cell : Cell) (h : Held) (k : List ℕ) (x : Unit {0}) → word_cell cell h ≡ Some (k, x) → cell ≡ Member_cell k
-    only (Member_cell word) h k x e = ap Member_cell (keyed_key word k x (Some tt) e)
-    only One h k x e = absurd (none_some e)
-    only (Named key) h k x e = absurd (none_some e)
-    only (Pair key word) h k x e = absurd (none_some e)
-    only (At i) h k x e = absurd (none_some e)
-    only (Waiter a b) h k x e = absurd (none_some e)
-    only (Of session) h k x e = absurd (none_some e)
+words_are m c words s sorted shown = keys_are nat_list_cmp_total exact_texts m word_cell Member_cell member_order (λ k h. refl) only_words words c s sorted shown
 
 pub pair_total : IsTotalOrder pair_cmp
 pair_total = then_total (on_total (λ (p : List ℕ × List ℕ). p.0) nat_list_cmp_total) (on_total (λ (p : List ℕ × List ℕ). p.1) nat_list_cmp_total)
@@ -274,29 +403,29 @@ exact_pairs p q e =
     let b = exact_texts p.1 q.1 a.1 in
     λ j. (a.0 j, b j)
 
+pub only_pairs : (cell : Cell) (h : Held) (k : List ℕ × List ℕ) (x : Unit {0}) → pair_cell cell h ≡ Some (k, x) → cell ≡ Pair k.0 k.1
+only_pairs (Pair key word) h k x e = ap (λ (k : List ℕ × List ℕ). Pair k.0 k.1) (keyed_key (key, word) k x (Some tt) e)
+only_pairs One h k x e = absurd (none_some e)
+only_pairs (Named key) h k x e = absurd (none_some e)
+only_pairs (Member_cell word) h k x e = absurd (none_some e)
+only_pairs (At i) h k x e = absurd (none_some e)
+only_pairs (Waiter a b) h k x e = absurd (none_some e)
+only_pairs (Of session) h k x e = absurd (none_some e)
+
 pub multimap_pairs_are : (m : ℕ) (c : Cells) (pairs : List (List ℕ × List ℕ)) → T (is_sorted place_cmp c) → is_sorted pair_cmp (keyed pairs) ≡ true → ((key word : List ℕ) → stands c (Cell_at m (Pair key word)) ≡ has_item pair_cmp (key, word) pairs) → keys (gather pair_cmp (pick_in m pair_cell) c) ≡ pairs
-multimap_pairs_are m c pairs s sorted shown = keys_are pair_total exact_pairs m pair_cell (λ (k : List ℕ × List ℕ). Pair k.0 k.1) (λ k h. refl) only pairs c s sorted (λ (k : List ℕ × List ℕ). shown k.0 k.1)
-  where
-    only : (cell : Cell) (h : Held) (k : List ℕ × List ℕ) (x : Unit {0}) → pair_cell cell h ≡ Some (k, x) → cell ≡ Pair k.0 k.1
-    only (Pair key word) h k x e = ap (λ (k : List ℕ × List ℕ). Pair k.0 k.1) (keyed_key (key, word) k x (Some tt) e)
-    only One h k x e = absurd (none_some e)
-    only (Named key) h k x e = absurd (none_some e)
-    only (Member_cell word) h k x e = absurd (none_some e)
-    only (At i) h k x e = absurd (none_some e)
-    only (Waiter a b) h k x e = absurd (none_some e)
-    only (Of session) h k x e = absurd (none_some e)
+multimap_pairs_are m c pairs s sorted shown = keys_are pair_total exact_pairs m pair_cell (λ (k : List ℕ × List ℕ). Pair k.0 k.1) pair_order (λ k h. refl) only_pairs pairs c s sorted (λ (k : List ℕ × List ℕ). shown k.0 k.1)
+
+pub only_listeners : (cell : Cell) (h : Held) (k : ℕ) (x : Unit {0}) → listener_cell cell h ≡ Some (k, x) → cell ≡ Of k
+only_listeners (Of session) h k x e = ap Of (keyed_key session k x (Some tt) e)
+only_listeners One h k x e = absurd (none_some e)
+only_listeners (Named key) h k x e = absurd (none_some e)
+only_listeners (Member_cell word) h k x e = absurd (none_some e)
+only_listeners (Pair key word) h k x e = absurd (none_some e)
+only_listeners (At i) h k x e = absurd (none_some e)
+only_listeners (Waiter a b) h k x e = absurd (none_some e)
 
 pub listeners_are : (m : ℕ) (c : Cells) (ls : List ℕ) → T (is_sorted place_cmp c) → Listens m c ls → listeners_in m c ≡ ls
-listeners_are m c ls s shown = keys_are nat_cmp_total nat_cmp-IsAntisymmetric m listener_cell Of (λ k h. refl) only ls c s shown.0 shown.1
-  where
-    only : (cell : Cell) (h : Held) (k : ℕ) (x : Unit {0}) → listener_cell cell h ≡ Some (k, x) → cell ≡ Of k
-    only (Of session) h k x e = ap Of (keyed_key session k x (Some tt) e)
-    only One h k x e = absurd (none_some e)
-    only (Named key) h k x e = absurd (none_some e)
-    only (Member_cell word) h k x e = absurd (none_some e)
-    only (Pair key word) h k x e = absurd (none_some e)
-    only (At i) h k x e = absurd (none_some e)
-    only (Waiter a b) h k x e = absurd (none_some e)
+listeners_are m c ls s shown = keys_are nat_cmp_total nat_cmp-IsAntisymmetric m listener_cell Of of_order (λ k h. refl) only_listeners ls c s shown.0 shown.1
 
 -- members
 
@@ -317,9 +446,18 @@ abbrev member_back : ℕ → Option (Content × Option ℕ) → Option Member
 member_back i None = None
 member_back i (Some cell) = option_map (λ word. record { index = i; session = owner_number cell.1; word = word }) (text_in cell.0)
 
+pub only_members : (cell : Cell) (h : Held) (k : ℕ) (x : Member) → member_of cell h ≡ Some (k, x) → cell ≡ At k
+only_members (At i) h k x e = ap At (keyed_key i k x (member_in i h) e)
+only_members One h k x e = absurd (none_some e)
+only_members (Named key) h k x e = absurd (none_some e)
+only_members (Member_cell word) h k x e = absurd (none_some e)
+only_members (Pair key word) h k x e = absurd (none_some e)
+only_members (Waiter a b) h k x e = absurd (none_some e)
+only_members (Of session) h k x e = absurd (none_some e)
+
 pub members_are : (m : ℕ) (c : Cells) (ms : List Member) → T (is_sorted place_cmp c) → is_sorted nat_cmp (by_index ms) ≡ true → ((i : ℕ) → member_at c (Cell_at m (At i)) ≡ option_map member_cell (find nat_cmp i (by_index ms))) → values (gather nat_cmp (pick_in m member_of) c) ≡ ms
 members_are m c ms s sorted shown =
-    ap values (entries_are nat_cmp_total nat_cmp-IsAntisymmetric m member_of At member_in (λ k h. refl) only (by_index ms) c s (T_from _ sorted) (λ k. read (at c (Cell_at m (At k))) k ∙ ap (member_back k) (shown k) ∙ back k (find nat_cmp k (by_index ms)) refl))
+    ap values (entries_are nat_cmp_total nat_cmp-IsAntisymmetric m member_of At member_in at_order (λ k h. refl) only_members (by_index ms) c s (T_from _ sorted) (λ k. read (at c (Cell_at m (At k))) k ∙ ap (member_back k) (shown k) ∙ back k (find nat_cmp k (by_index ms)) refl))
     ∙ unindexed ms
   where
     read : (o : Option Held) (i : ℕ) → read_at member_in i o ≡ member_back i (option_map (λ (h : Held). (h.content, h.owner)) o)
@@ -329,15 +467,6 @@ members_are m c ms s sorted shown =
     back : (i : ℕ) (o : Option Member) → find nat_cmp i (by_index ms) ≡ o → member_back i (option_map member_cell o) ≡ o
     back i None f = refl
     back i (Some x) f = λ j. Some (record { index = sym (index_found ms i x f) j; session = x.session; word = x.word })
-
-    only : (cell : Cell) (h : Held) (k : ℕ) (x : Member) → member_of cell h ≡ Some (k, x) → cell ≡ At k
-    only (At i) h k x e = ap At (keyed_key i k x (member_in i h) e)
-    only One h k x e = absurd (none_some e)
-    only (Named key) h k x e = absurd (none_some e)
-    only (Member_cell word) h k x e = absurd (none_some e)
-    only (Pair key word) h k x e = absurd (none_some e)
-    only (Waiter a b) h k x e = absurd (none_some e)
-    only (Of session) h k x e = absurd (none_some e)
 
 -- waiters
 

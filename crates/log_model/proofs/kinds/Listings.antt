@@ -1,124 +1,136 @@
--- What a kind reads of cells in order, cell by cell: each key at its own place, and the list in the order of the cells. No law here needs it yet.
-use Rattle.std.proofs.Common.{◌≡◌, ℕ, ◌==◌, ◌&&◌, Bool, true, false, cond, T, List, [], ◌∷◌, ◌++◌, map, length, Option, Some, None, is_some, refl, sym, ap, subst, ◌∙◌, zero, suc, eq-eqb, eqb-true, arith, ◌<◌, Ordering, Less}
-use Rattle.std.specs.Option.{option_map, option_map_or}
+-- What a kind reads of the cells of a table, which rise and are all of its kind and instance: by look-ups, by how many there are, and from the first on. For the
+-- crates of the kinds.
+use Rattle.std.proofs.Common.{◌≡◌, ℕ, zero, suc, ◌<◌, ◌==◌, Bool, true, false, cond, not, T, List, [], ◌∷◌, length, Option, Some, None, is_some, refl, sym, ap, ◌∙◌, eq-eqb, arith, Less}
+use Rattle.std.proofs.lemmas.Bool.Decides.{Decides-eqb}
+use Rattle.std.specs.Prelude.{IsTrue}
 use Rattle.std.specs.List.{filter}
-use Rattle.std.specs.Ordering.{nat_cmp, ordering_then, is_lt, is_le, is_eq, eq_by_cmp}
-use Rattle.std.specs.Cmp.{IsTotalOrder, nat_cmp_total, nat_cmp_is, tied_itself}
-use Rattle.std.specs.FinMap.{find, is_sorted, IsAntisymmetric, nat_cmp-IsAntisymmetric}
-use Rattle.std.specs.FinMap.Entries.{below_all, find-put, is_some-find}
+use Rattle.std.specs.Ordering.{nat_cmp, is_le}
+use Rattle.std.specs.Cmp.{nat_cmp_total, nat_cmp_is}
+use Rattle.std.specs.Cmp.Lexicographic.{nat_list_cmp_total}
+use Rattle.std.specs.FinMap.{find, is_sorted, nat_cmp-IsAntisymmetric}
+use Rattle.host_types.specs.declared.entry.Kind.{Kind}
+use Rattle.host_types.specs.declared.entry.Kind.TheVariants.{Map, Multimap, Set}
 use Rattle.host_types.specs.declared.entry.Cell.{Cell}
 use Rattle.host_types.specs.declared.entry.Cell.TheVariants.{One, Named, Member as Member_cell, Pair, At, Waiter, Of}
-use Rattle.host_types.specs.Cells.{Place, Name_at, Cell_at, Register_at, Alive_at, Held, cell_cmp, place_cmp, Cells, at}
-use Rattle.host_types.proofs.Places.{place_total, exact_places}
-use Rattle.log_model.specs.plain.Plain.{Member, has_item}
-use Rattle.log_model.specs.kinds.Reading.{picked, gather, picked_first, listed, pick_in, keys, keyed_by, item_cell, member_in, member_of, listener_cell, listeners_in, text_in}
-use Rattle.log_model.proofs.Lookups.{T_both, T_from, below_missing, tied_same}
-use Rattle.log_model.proofs.kinds.Gather.{EachCell, none_some, read_at, keyed_back, keyed_key, stood, word_of, read_stood}
-use Rattle.log_model.proofs.kinds.Bridges.{and_T, gather_listed}
-use Rattle.log_model.proofs.kinds.Keyed.{at_order, of_order}
+use Rattle.host_types.specs.declared.entry.Content.{Content}
+use Rattle.host_types.specs.declared.entry.Content.TheVariants.{Mark, Text, Number}
+use Rattle.host_types.specs.Cells.{Place, Cell_at, Held, cell_cmp, place_cmp, text_cmp, Cells, at, stands, is_of_kind}
+use Rattle.host_types.proofs.Places.{exact_texts}
+use Rattle.log_model.specs.plain.Plain.{has_item, head_of, pair_cmp}
+use Rattle.log_model.specs.kinds.Shows.{content_at}
+use Rattle.log_model.specs.kinds.Reading.{gather, listed, pick_in, keys, keyed_by, text_in, text_of, map_cell, pair_cell, word_cell, item_cell, listener_cell, listeners_in}
+use Rattle.log_model.proofs.Lookups.{T_from}
+use Rattle.log_model.proofs.kinds.Gather.{EachCell, each_cell, weaker_cell, read_at, read_word, stood, read_stood, word_of, pair_total, exact_pairs, placed, picked_there, find_gathered, has_key, in_order, as_many, listed_kept, named_order, member_order, pair_order, at_order, of_order, only_named, only_words, only_pairs, only_items, only_listeners}
 
-unkeyed_none : {K X : Type 0} (k : K) (o : Option X) → keyed_by k o ≡ None → o ≡ None
-unkeyed_none k None e = refl
-unkeyed_none k (Some x) e = absurd (none_some (sym e))
+-- each cell is one of the kind and the instance
+abbrev pub AreOf : Kind → ℕ → Cells → Type 0
+AreOf kind m c = (place : Place) (held : Held) → at c place ≡ Some held → (cell : Cell) × (place ≡ Cell_at m cell) × (is_of_kind kind cell held.content ≡ true)
 
-module _ {K X : Type 0} {R : K → K → Ordering} (total : IsTotalOrder R) (exact : IsAntisymmetric R) (m : ℕ) (pick : Cell → Held → Option (K × X)) (place : K → Cell) (read : K → Held → Option X)
-    (order : (k q : K) → cell_cmp (place k) (place q) ≡ R k q) (here : (k : K) (h : Held) → pick (place k) h ≡ keyed_by k (read k h)) (only : (cell : Cell) (h : Held) (k : K) (x : X) → pick cell h ≡ Some (k, x) → cell ≡ place k) where
-  placed : (k q : K) → place_cmp (Cell_at m (place k)) (Cell_at m (place q)) ≡ R k q
-  placed k q = ap (λ o. ordering_then o (cell_cmp (place k) (place q))) (tied_itself nat_cmp_total m) ∙ order k q
+abbrev pub cell_of : Place → Cell
+cell_of (Cell_at m cell) = cell
+cell_of _ = One
 
-  -- what is picked of a cell stands at the place of its key
-  pub picked_there : (e : Place × Held) (w : K × X) → pick_in m pick e ≡ Some w → (e.0 ≡ Cell_at m (place w.0)) × (read w.0 e.1 ≡ Some w.1)
-  picked_there (Cell_at other cell, h) w e = go (m == other) refl e
-    where
-      go : (b : Bool) → (m == other) ≡ b → cond b (pick cell h) None ≡ Some w → (Cell_at other cell ≡ Cell_at m (place w.0)) × (read w.0 h ≡ Some w.1)
-      go true t e =
-          let is : cell ≡ place w.0 = only cell h w.0 w.1 e in
-          ((λ j. Cell_at (sym (eqb-true m other t) j) (is j)), keyed_back w.0 w.1 (read w.0 h) (sym (here w.0 h) ∙ (λ j. pick (sym is j) h) ∙ e))
-      go false t e = absurd (none_some e)
-  picked_there (Name_at name, h) w e = absurd (none_some e)
-  picked_there (Register_at session, h) w e = absurd (none_some e)
-  picked_there (Alive_at session, h) w e = absurd (none_some e)
+pub keyed_some : {K X : Type 0} (k : K) (o : Option X) → is_some o ≡ true → is_some (keyed_by k o) ≡ true
+keyed_some k None e = absurd (cc)
+keyed_some k (Some x) e = refl
 
-  -- the cell of a key that isn't picked has nothing to be read
-  unpicked : (e : Place × Held) (k : K) → e.0 ≡ Cell_at m (place k) → pick_in m pick e ≡ None → read k e.1 ≡ None
-  unpicked e k is none = unkeyed_none k (read k e.1) (sym (here k e.1) ∙ sym (ap (λ b. cond b (pick (place k) e.1) None) (eq-eqb m m refl)) ∙ (λ j. pick_in m pick (sym is j, e.1)) ∙ none)
+-- whatever is of the kind is picked
+pub each_picked : {K X : Type 0} (kind : Kind) (m : ℕ) (pick : Cell → Held → Option (K × X)) → ((cell : Cell) (h : Held) → is_of_kind kind cell h.content ≡ true → is_some (pick cell h) ≡ true)
+    → (c : Cells) → IsTrue (is_sorted place_cmp c) → AreOf kind m c → EachCell (λ e. is_some (pick_in m pick e) ≡ true) c
+each_picked kind m pick all c s own = weaker_cell (λ e. at c e.0 ≡ Some e.1) (λ e. is_some (pick_in m pick e) ≡ true) here c (each_cell c (T_from _ s))
+  where
+    here : (e : Place × Held) → at c e.0 ≡ Some e.1 → is_some (pick_in m pick e) ≡ true
+    here e there =
+        let is = own e.0 e.1 there in
+        ap (λ p. is_some (pick_in m pick (p, e.1))) is.1 ∙ ap (λ b. is_some (cond b (pick is.0 e.1) None)) (eq-eqb m m refl) ∙ all is.0 e.1 is.2
 
-  -- a key is looked up at its place
-  pub find_gathered : (k : K) (c : Cells) → T (is_sorted place_cmp c) → find R k (gather R (pick_in m pick) c) ≡ read_at read k (at c (Cell_at m (place k)))
-  find_gathered k [] s = refl
-  find_gathered k (e ∷ c) s =
-      let rest = find_gathered k c (T_both _ _ s).1 in
-      elim (pick_in m pick e) as (λ o. pick_in m pick e ≡ o → find R k (picked R o (gather R (pick_in m pick) c)) ≡ read_at read k (cond (eq_by_cmp place_cmp (Cell_at m (place k)) e.0) (Some e.1) (at c (Cell_at m (place k))))) [
-        | None ↦ λ t. missed (eq_by_cmp place_cmp (Cell_at m (place k)) e.0) refl t (T_both _ _ s).0 rest
-        | Some w ↦ λ t. find-put R total k w.0 w.1 (gather R (pick_in m pick) c) ∙ hit w t rest (eq_by_cmp R k w.0) refl
-      ] refl
-    where
-      missed : (b : Bool) → eq_by_cmp place_cmp (Cell_at m (place k)) e.0 ≡ b → pick_in m pick e ≡ None → T (below_all place_cmp e.0 c) → find R k (gather R (pick_in m pick) c) ≡ read_at read k (at c (Cell_at m (place k)))
-          → find R k (gather R (pick_in m pick) c) ≡ read_at read k (cond b (Some e.1) (at c (Cell_at m (place k))))
-      missed true t none low rest =
-          let is : Cell_at m (place k) ≡ e.0 = tied_same place_total exact_places (Cell_at m (place k)) e.0 t in
-          rest ∙ ap (read_at read k) (ap (at c) is ∙ below_missing place_cmp e.0 c low) ∙ sym (unpicked e k (sym is) none)
-      missed false t none low rest = rest
+many_keys : {K : Type 0} (es : List (K × Unit {0})) → length (keys es) ≡ length es
+many_keys [] = refl
+many_keys (e ∷ es) = ap suc (many_keys es)
 
-      hit : (w : K × X) → pick_in m pick e ≡ Some w → find R k (gather R (pick_in m pick) c) ≡ read_at read k (at c (Cell_at m (place k))) → (b : Bool) → eq_by_cmp R k w.0 ≡ b
-          → cond b (Some w.1) (find R k (gather R (pick_in m pick) c)) ≡ read_at read k (cond (eq_by_cmp place_cmp (Cell_at m (place k)) e.0) (Some e.1) (at c (Cell_at m (place k))))
-      hit w t rest b tie =
-          let there = picked_there e w t in
-          let same : eq_by_cmp place_cmp (Cell_at m (place k)) e.0 ≡ b = ap (λ p. eq_by_cmp place_cmp (Cell_at m (place k)) p) there.0 ∙ ap is_eq (placed k w.0) ∙ tie in
-          found w there.1 rest b tie ∙ ap (λ b. read_at read k (cond b (Some e.1) (at c (Cell_at m (place k))))) (sym same)
-        where
-          found : (w : K × X) → read w.0 e.1 ≡ Some w.1 → find R k (gather R (pick_in m pick) c) ≡ read_at read k (at c (Cell_at m (place k))) → (b : Bool) → eq_by_cmp R k w.0 ≡ b
-              → cond b (Some w.1) (find R k (gather R (pick_in m pick) c)) ≡ read_at read k (cond b (Some e.1) (at c (Cell_at m (place k))))
-          found w is rest true tie = sym is ∙ (λ j. read (sym (tied_same total exact k w.0 tie) j) e.1)
-          found w is rest false tie = rest
+-- ---- maps
 
-  -- whether a key is there
-  pub has_key : (k : K) (c : Cells) → T (is_sorted place_cmp c) → has_item R k (keys (gather R (pick_in m pick) c)) ≡ is_some (read_at read k (at c (Cell_at m (place k))))
-  has_key k c s = sym (is_some-find R k (gather R (pick_in m pick) c)) ∙ ap is_some (find_gathered k c s)
+abbrev pub pairs_in : ℕ → Cells → List (List ℕ × List ℕ)
+pairs_in m c = gather text_cmp (pick_in m map_cell) c
 
-  below_listed : (k : K) (c : Cells) → T (below_all place_cmp (Cell_at m (place k)) c) → T (below_all R k (listed (pick_in m pick) c))
-  below_listed k [] h = tt
-  below_listed k (e ∷ c) h =
-      let b = T_both _ _ h in
-      elim (pick_in m pick e) as (λ o. pick_in m pick e ≡ o → T (below_all R k (picked_first o (listed (pick_in m pick) c)))) [
-        | None ↦ λ t. below_listed k c b.1
-        | Some w ↦ λ t. and_T (is_lt (R k w.0)) _ (subst (λ o. T (is_lt o)) (ap (place_cmp (Cell_at m (place k))) (picked_there e w t).0 ∙ placed k w.0) b.0) (below_listed k c b.1)
-      ] refl
+with_text : (key : List ℕ) (content : Content) → is_of_kind Map (Named key) content ≡ true → is_some (text_in content) ≡ true
+with_text key (Text word) e = refl
+with_text key Mark e = absurd (cc)
+with_text key (Number n) e = absurd (cc)
 
-  pub sorted_listed : (c : Cells) → T (is_sorted place_cmp c) → T (is_sorted R (listed (pick_in m pick) c))
-  sorted_listed [] s = tt
-  sorted_listed (e ∷ c) s =
-      let b = T_both _ _ s in
-      elim (pick_in m pick e) as (λ o. pick_in m pick e ≡ o → T (is_sorted R (picked_first o (listed (pick_in m pick) c)))) [
-        | None ↦ λ t. sorted_listed c b.1
-        | Some w ↦ λ t. and_T (below_all R w.0 (listed (pick_in m pick) c)) _ (below_listed w.0 c (subst (λ p. T (below_all place_cmp p c)) (picked_there e w t).0 b.0)) (sorted_listed c b.1)
-      ] refl
+of_map : (cell : Cell) (h : Held) → is_of_kind Map cell h.content ≡ true → is_some (map_cell cell h) ≡ true
+of_map (Named key) h e = keyed_some key (text_in h.content) (with_text key h.content e)
+of_map One h e = absurd (cc)
+of_map (Member_cell word) h e = absurd (cc)
+of_map (Pair key word) h e = absurd (cc)
+of_map (At i) h e = absurd (cc)
+of_map (Waiter a b) h e = absurd (cc)
+of_map (Of a) h e = absurd (cc)
 
-  -- it is read in the order of the cells
-  pub in_order : (c : Cells) → T (is_sorted place_cmp c) → gather R (pick_in m pick) c ≡ listed (pick_in m pick) c
-  in_order c s = gather_listed R (pick_in m pick) c (sorted_listed c s)
+pub map_find : (m : ℕ) (c : Cells) → IsTrue (is_sorted place_cmp c) → (key : List ℕ) → find text_cmp key (pairs_in m c) ≡ text_of (content_at c (Cell_at m (Named key)))
+map_find m c s key = find_gathered nat_list_cmp_total exact_texts m map_cell Named word_of named_order (λ k h. refl) only_named key c (T_from _ s) ∙ read_word key (at c (Cell_at m (Named key)))
 
-module _ {K X : Type 0} (pick : Place × Held → Option (K × X)) where
-  -- the cells that aren't picked may be left out
-  pub listed_kept : (q : Place × Held → Bool) (c : Cells) → ((e : Place × Held) (w : K × X) → pick e ≡ Some w → q e ≡ true) → listed pick (filter q c) ≡ listed pick c
-  listed_kept q [] all = refl
-  listed_kept q (e ∷ c) all =
-      let rest = listed_kept q c all in
-      elim (pick e) as (λ o. pick e ≡ o → listed pick (cond (q e) (e ∷ filter q c) (filter q c)) ≡ picked_first o (listed pick c)) [
-        | None ↦ λ t. skipped (q e) t ∙ rest
-        | Some w ↦ λ t. ap (λ b. listed pick (cond b (e ∷ filter q c) (filter q c))) (all e w t) ∙ (λ j. picked_first (t j) (rest j))
-      ] refl
-    where
-      skipped : (b : Bool) → pick e ≡ None → listed pick (cond b (e ∷ filter q c) (filter q c)) ≡ listed pick (filter q c)
-      skipped true t = ap (λ o. picked_first o (listed pick (filter q c))) t
-      skipped false t = refl
+pub map_has : (m : ℕ) (c : Cells) → IsTrue (is_sorted place_cmp c) → AreOf Map m c → (key : List ℕ) → is_some (find text_cmp key (pairs_in m c)) ≡ stands c (Cell_at m (Named key))
+map_has m c s own key = ap is_some (find_gathered nat_list_cmp_total exact_texts m map_cell Named word_of named_order (λ k h. refl) only_named key c (T_from _ s)) ∙ go (at c (Cell_at m (Named key))) refl
+  where
+    text : (cell : Cell) (h : Held) → Cell_at m (Named key) ≡ Cell_at m cell → is_of_kind Map cell h.content ≡ true → is_some (text_in h.content) ≡ true
+    text cell h same e = with_text key h.content (ap (λ p. is_of_kind Map (cell_of p) h.content) same ∙ e)
 
-  -- where each cell is picked, there are as many
-  pub each_listed : (c : Cells) → EachCell (λ e. is_some (pick e) ≡ true) c → length (listed pick c) ≡ length c
-  each_listed [] h = refl
-  each_listed (e ∷ c) h =
-      let rest = each_listed c h.1 in
-      elim (pick e) as (λ o. is_some o ≡ true → length (picked_first o (listed pick c)) ≡ suc (length c)) [ None ↦ λ t. absurd (cc) | Some w ↦ λ t. ap suc rest ] h.0
+    go : (o : Option Held) → at c (Cell_at m (Named key)) ≡ o → is_some (read_at word_of key o) ≡ is_some o
+    go None e = refl
+    go (Some h) e = let is = own (Cell_at m (Named key)) h e in text is.0 h is.1 is.2
+
+pub map_size : (m : ℕ) (c : Cells) → IsTrue (is_sorted place_cmp c) → AreOf Map m c → length (pairs_in m c) ≡ length c
+map_size m c s own = as_many nat_list_cmp_total exact_texts m map_cell Named word_of named_order (λ k h. refl) only_named c (T_from _ s) (each_picked Map m map_cell of_map c s own)
+
+-- ---- sets
+
+abbrev pub words_in : ℕ → Cells → List (List ℕ)
+words_in m c = keys (gather text_cmp (pick_in m word_cell) c)
+
+of_set : (cell : Cell) (h : Held) → is_of_kind Set cell h.content ≡ true → is_some (word_cell cell h) ≡ true
+of_set (Member_cell word) h e = refl
+of_set One h e = absurd (cc)
+of_set (Named key) h e = absurd (cc)
+of_set (Pair key word) h e = absurd (cc)
+of_set (At i) h e = absurd (cc)
+of_set (Waiter a b) h e = absurd (cc)
+of_set (Of a) h e = absurd (cc)
+
+pub set_has : (m : ℕ) (c : Cells) → IsTrue (is_sorted place_cmp c) → (word : List ℕ) → has_item text_cmp word (words_in m c) ≡ stands c (Cell_at m (Member_cell word))
+set_has m c s word = has_key nat_list_cmp_total exact_texts m word_cell Member_cell stood member_order (λ k h. refl) only_words word c (T_from _ s) ∙ read_stood word (at c (Cell_at m (Member_cell word)))
+
+pub set_size : (m : ℕ) (c : Cells) → IsTrue (is_sorted place_cmp c) → AreOf Set m c → length (words_in m c) ≡ length c
+set_size m c s own =
+    many_keys (gather text_cmp (pick_in m word_cell) c)
+    ∙ as_many nat_list_cmp_total exact_texts m word_cell Member_cell stood member_order (λ k h. refl) only_words c (T_from _ s) (each_picked Set m word_cell of_set c s own)
+
+-- ---- multimaps
+
+abbrev pub pair_place : List ℕ × List ℕ → Cell
+pair_place p = Pair p.0 p.1
+
+of_multimap : (cell : Cell) (h : Held) → is_of_kind Multimap cell h.content ≡ true → is_some (pair_cell cell h) ≡ true
+of_multimap (Pair key word) h e = refl
+of_multimap One h e = absurd (cc)
+of_multimap (Named key) h e = absurd (cc)
+of_multimap (Member_cell word) h e = absurd (cc)
+of_multimap (At i) h e = absurd (cc)
+of_multimap (Waiter a b) h e = absurd (cc)
+of_multimap (Of a) h e = absurd (cc)
+
+pub multimap_has : (m : ℕ) (c : Cells) → IsTrue (is_sorted place_cmp c) → (key word : List ℕ) → has_item pair_cmp (key, word) (keys (gather pair_cmp (pick_in m pair_cell) c)) ≡ stands c (Cell_at m (Pair key word))
+multimap_has m c s key word =
+    has_key pair_total exact_pairs m pair_cell pair_place stood pair_order (λ k h. refl) only_pairs (key, word) c (T_from _ s) ∙ read_stood {K = List ℕ × List ℕ} (key, word) (at c (Cell_at m (Pair key word)))
+
+pub multimap_size : (m : ℕ) (c : Cells) → IsTrue (is_sorted place_cmp c) → AreOf Multimap m c → length (keys (gather pair_cmp (pick_in m pair_cell) c)) ≡ length c
+multimap_size m c s own =
+    many_keys (gather pair_cmp (pick_in m pair_cell) c)
+    ∙ as_many pair_total exact_pairs m pair_cell pair_place stood pair_order (λ k h. refl) only_pairs c (T_from _ s) (each_picked Multimap m pair_cell of_multimap c s own)
+
+-- the pairs in the order of their cells
+pub multimap_pairs : (m : ℕ) (c : Cells) → IsTrue (is_sorted place_cmp c) → keys (gather pair_cmp (pick_in m pair_cell) c) ≡ keys (listed (pick_in m pair_cell) c)
+multimap_pairs m c s = ap keys (in_order pair_total exact_pairs m pair_cell pair_place stood pair_order (λ k h. refl) only_pairs c (T_from _ s))
 
 -- ---- numbers as keys
 
@@ -137,38 +149,7 @@ module _ {X : Type 0} (m : ℕ) (pick : Cell → Held → Option (ℕ × X)) (pl
           let there = picked_there nat_cmp_total nat_cmp-IsAntisymmetric m pick place read order here only e w t in
           ap (λ p. is_le (place_cmp (Cell_at m (place 0)) p)) there.0 ∙ ap is_le (placed nat_cmp_total nat_cmp-IsAntisymmetric m pick place read order here only 0 w.0) ∙ from_zero w.0
 
-  -- and there are as many as cells, where each cell is read
-  pub as_many : (c : Cells) → T (is_sorted place_cmp c) → EachCell (λ e. is_some (pick_in m pick e) ≡ true) c → length (gather nat_cmp (pick_in m pick) c) ≡ length c
-  as_many c s own = ap length (in_order nat_cmp_total nat_cmp-IsAntisymmetric m pick place read order here only c s) ∙ each_listed (pick_in m pick) c own
-
--- ---- items, members and listeners
-
-pub only_items : (cell : Cell) (h : Held) (k : ℕ) (x : List ℕ) → item_cell cell h ≡ Some (k, x) → cell ≡ At k
-only_items (At i) h k x e = ap At (keyed_key i k x (text_in h.content) e)
-only_items One h k x e = absurd (none_some e)
-only_items (Named key) h k x e = absurd (none_some e)
-only_items (Member_cell word) h k x e = absurd (none_some e)
-only_items (Pair key word) h k x e = absurd (none_some e)
-only_items (Waiter a b) h k x e = absurd (none_some e)
-only_items (Of session) h k x e = absurd (none_some e)
-
-pub only_members : (cell : Cell) (h : Held) (k : ℕ) (x : Member) → member_of cell h ≡ Some (k, x) → cell ≡ At k
-only_members (At i) h k x e = ap At (keyed_key i k x (member_in i h) e)
-only_members One h k x e = absurd (none_some e)
-only_members (Named key) h k x e = absurd (none_some e)
-only_members (Member_cell word) h k x e = absurd (none_some e)
-only_members (Pair key word) h k x e = absurd (none_some e)
-only_members (Waiter a b) h k x e = absurd (none_some e)
-only_members (Of session) h k x e = absurd (none_some e)
-
-pub only_listeners : (cell : Cell) (h : Held) (k : ℕ) (x : Unit {0}) → listener_cell cell h ≡ Some (k, x) → cell ≡ Of k
-only_listeners (Of session) h k x e = ap Of (keyed_key session k x (Some tt) e)
-only_listeners One h k x e = absurd (none_some e)
-only_listeners (Named key) h k x e = absurd (none_some e)
-only_listeners (Member_cell word) h k x e = absurd (none_some e)
-only_listeners (Pair key word) h k x e = absurd (none_some e)
-only_listeners (At i) h k x e = absurd (none_some e)
-only_listeners (Waiter a b) h k x e = absurd (none_some e)
+-- ---- items and listeners
 
 -- a queue's items, from the first on
 abbrev pub items_in : ℕ → Cells → List (ℕ × List ℕ)
@@ -178,7 +159,7 @@ pub items_from : (m : ℕ) (c : Cells) → T (is_sorted place_cmp c) → listed 
 items_from m c s = from_least m item_cell At word_of at_order (λ k h. refl) only_items c s
 
 pub as_many_items : (m : ℕ) (c : Cells) → T (is_sorted place_cmp c) → EachCell (λ e. is_some (pick_in m item_cell e) ≡ true) c → length (items_in m c) ≡ length c
-as_many_items m c s own = as_many m item_cell At word_of at_order (λ k h. refl) only_items c s own
+as_many_items m c s own = as_many nat_cmp_total nat_cmp-IsAntisymmetric m item_cell At word_of at_order (λ k h. refl) only_items c s own
 
 -- each session listens that has a cell
 pub listens : (m session : ℕ) (c : Cells) → T (is_sorted place_cmp c) → has_item nat_cmp session (listeners_in m c) ≡ is_some (at c (Cell_at m (Of session)))
@@ -192,8 +173,14 @@ pub listeners_from : (m : ℕ) (c : Cells) → T (is_sorted place_cmp c) → lis
 listeners_from m c s = ap keys (from_least m listener_cell Of stood of_order (λ k h. refl) only_listeners c s)
 
 pub as_many_listeners : (m : ℕ) (c : Cells) → T (is_sorted place_cmp c) → EachCell (λ e. is_some (pick_in m listener_cell e) ≡ true) c → length (listeners_in m c) ≡ length c
-as_many_listeners m c s own = as_many_keys (gather nat_cmp (pick_in m listener_cell) c) ∙ as_many m listener_cell Of stood of_order (λ k h. refl) only_listeners c s own
+as_many_listeners m c s own = many_keys (gather nat_cmp (pick_in m listener_cell) c) ∙ as_many nat_cmp_total nat_cmp-IsAntisymmetric m listener_cell Of stood of_order (λ k h. refl) only_listeners c s own
+
+-- ---- whether there is any
+
+pub any_there : {A : Type 0} (xs : List A) → not (is_some (head_of xs)) ≡ (length xs == 0)
+any_there [] = refl
+any_there (x ∷ xs) = go (length (x ∷ xs) == 0) refl
   where
-    as_many_keys : (es : List (ℕ × Unit {0})) → length (keys es) ≡ length es
-    as_many_keys [] = refl
-    as_many_keys (e ∷ es) = ap suc (as_many_keys es)
+    go : (b : Bool) → (length (x ∷ xs) == 0) ≡ b → false ≡ b
+    go false t = refl
+    go true t = absurd (omega (arith, (Decides-eqb (length (x ∷ xs)) 0).0 t))

@@ -1,7 +1,7 @@
 use Rattle.std.proofs.Common.{ap, sym, subst, ◌∙◌}
 use Rattle.host_types.specs.declared.entry.Cell.TheVariants.{Named}
 use Rattle.host_types.specs.Cells.{Cell_at, stands}
-use Rattle.log_model.proofs.kinds.Tabled.{AreOf, map_has}
+use Rattle.log_model.proofs.kinds.Listings.{AreOf, map_has}
 use Rattle.map_set.proofs.map.has.Goals as goal
 
 pub returns : goal.returns

@@ -1,5 +1,5 @@
 use Rattle.std.proofs.Common.{◌≡◌, ◌==◌, length, ap, sym, subst, ◌∙◌}
-use Rattle.log_model.proofs.kinds.Tabled.{AreOf, map_size, any_there}
+use Rattle.log_model.proofs.kinds.Listings.{AreOf, map_size, any_there}
 use Rattle.map_set.specs.Reading.{pairs_of}
 use Rattle.map_set.proofs.map.is_empty.Goals as goal
 

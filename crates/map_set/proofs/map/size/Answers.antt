@@ -1,6 +1,6 @@
 use Rattle.std.proofs.Common.{ap, sym, subst, ◌∙◌}
 use Rattle.log_model.specs.plain.Rows.{count_reply}
-use Rattle.log_model.proofs.kinds.Tabled.{AreOf, map_size}
+use Rattle.log_model.proofs.kinds.Listings.{AreOf, map_size}
 use Rattle.map_set.proofs.map.size.Goals as goal
 
 pub returns : goal.returns

@@ -1,5 +1,5 @@
 use Rattle.std.proofs.Common.{◌≡◌, ◌==◌, length, ap, sym, subst, ◌∙◌}
-use Rattle.log_model.proofs.kinds.Tabled.{AreOf, set_size, any_there}
+use Rattle.log_model.proofs.kinds.Listings.{AreOf, set_size, any_there}
 use Rattle.map_set.specs.Reading.{words_of}
 use Rattle.map_set.proofs.set.is_empty.Goals as goal
 

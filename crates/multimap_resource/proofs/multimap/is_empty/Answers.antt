@@ -1,5 +1,5 @@
 use Rattle.std.proofs.Common.{◌≡◌, ◌==◌, length, ap, sym, subst, ◌∙◌}
-use Rattle.log_model.proofs.kinds.Tabled.{AreOf, multimap_size, any_there}
+use Rattle.log_model.proofs.kinds.Listings.{AreOf, multimap_size, any_there}
 use Rattle.multimap_resource.specs.Reading.{pairs_of}
 use Rattle.multimap_resource.proofs.multimap.is_empty.Goals as goal
 

@@ -1,6 +1,6 @@
 use Rattle.std.proofs.Common.{ap, sym, subst, ◌∙◌}
 use Rattle.log_model.specs.plain.Rows.{count_reply}
-use Rattle.log_model.proofs.kinds.Tabled.{AreOf, multimap_size}
+use Rattle.log_model.proofs.kinds.Listings.{AreOf, multimap_size}
 use Rattle.multimap_resource.proofs.multimap.size.Goals as goal
 
 pub returns : goal.returns

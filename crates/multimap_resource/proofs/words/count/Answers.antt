@@ -1,5 +1,5 @@
 use Rattle.std.proofs.Common.{subst, ◌∙◌}
-use Rattle.log_model.proofs.kinds.Tabled.{AreOf}
+use Rattle.log_model.proofs.kinds.Listings.{AreOf}
 use Rattle.multimap_resource.proofs.Walking.{count_are}
 use Rattle.multimap_resource.proofs.words.count.Goals as goal
 

@@ -1,5 +1,5 @@
 use Rattle.std.proofs.Common.{rules, ◌≡◌, take, ap, subst, ◌∙◌}
-use Rattle.log_model.proofs.kinds.Tabled.{AreOf}
+use Rattle.log_model.proofs.kinds.Listings.{AreOf}
 use Rattle.multimap_resource.specs.Reading.{words_of}
 use Rattle.multimap_resource.proofs.Walking.{words_are}
 use Rattle.multimap_resource.proofs.words.least_words.Goals as goal
