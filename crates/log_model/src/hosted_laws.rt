@@ -1,6 +1,6 @@
 // The laws of logs over any machine that is known by its decision.
 ghost use Rattle.log_model.specs.hosted.Machines.{AdmittedIsInRange, AdmittedKeepsSound, CentralLawOfMachines, HostedLogGrows, HostedLogIsWhole, HostedQuietGrows, LogsAreSound, MarksLawOfMachines};
-ghost use Rattle.log_model.specs.hosted.OneByOne.{ChangesCompose, PushesAreBatches};
+ghost use Rattle.log_model.specs.hosted.OneByOne.{ChangesCompose};
 ghost use Rattle.log_model.specs.hosted.Parts.{AlivesFollow, MachinePartFollows, PlacesAreParted, SessionPlacesAre};
 ghost use Rattle.log_model.specs.hosted.PlainMachine.{PlainMachinesArePlain};
 ghost use Rattle.log_model.specs.hosted.Sound.{EntriesKeepSound, NextIndexIsFree};
@@ -38,11 +38,6 @@ pub fn alives_follow()
 /// Two changes of one session, one after the other, are one change.
 pub fn changes_compose()
     ensures { ChangesCompose }
-{}
-
-/// Where each open session that is told something is given its batch once, one after the other, each has its batch.
-pub fn pushes_are_batches()
-    ensures { PushesAreBatches }
 {}
 
 /// The state of a whole log is sound.

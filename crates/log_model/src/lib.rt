@@ -15,7 +15,7 @@ pub use hosted_laws::{
     admitted_is_in_range, admitted_keeps_sound, alives_follow, central_law_of_machines,
     changes_compose, entries_keep_sound, hosted_log_grows, hosted_log_is_whole, hosted_quiet_grows,
     logs_are_sound, machine_part_follows, marks_law_of_machines, next_index_is_free,
-    places_are_parted, plain_machines_are_plain, pushes_are_batches, session_places_are,
+    places_are_parted, plain_machines_are_plain, session_places_are,
 };
 pub use kinds_laws::{
     closes_show, kinds_are_lawful, kinds_decide_as_plain, kinds_have_one_owner, kinds_keep_showing,

@@ -87,13 +87,6 @@ same_held None (Some t) place e = absurd (cc)
 same_held (Some s) None place e = absurd (cc)
 same_held (Some s) (Some t) place e = let same : s.resource ≡ t.resource = (cc) in ap (λ r. at (any_cells r) place) same
 
-pub unnamed_ready : (m : ℕ) (o : Option Named) (slots : Slots) (effect : Effect) (i : ℕ) → ResourceIsReady slots m effect i → ResourceIsReady (unnamed_by o slots) m effect i
-unnamed_ready m o slots effect i ready s found = go (find nat_cmp m slots) refl (sym (same_at m o slots) ∙ ap resource_of found)
-  where
-    go : (p : Option Slot) → find nat_cmp m slots ≡ p → resource_of p ≡ Some s.resource → AnyIsReady s.resource effect i
-    go None f e = absurd (cc)
-    go (Some t) f e = let same : t.resource ≡ s.resource = (cc) in subst (λ r. AnyIsReady r effect i) same (ready t f)
-
 pub whole_without : (names : Names) (slots : Slots) (x : List ℕ) → IsWhole names slots → IsWhole (without_name x names) (unnamed_by (find text_cmp x names) slots)
 whole_without names slots x whole = go (find text_cmp x names) refl
   where

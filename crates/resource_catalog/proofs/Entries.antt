@@ -80,10 +80,6 @@ found_passes {K} {X} {R} exact test q x (e ∷ es) h f = go (found_passes exact 
     go rest false t g = rest g
 
 module _ {K X : Type 0} where
-  pub all_joined : (test : K × X → Bool) (es fs : List (K × X)) → T (list_all test es) → T (list_all test fs) → T (list_all test (es ++ fs))
-  all_joined test [] fs h k = k
-  all_joined test (e ∷ es) fs h k = let p = parts _ _ h in both _ _ p.0 (all_joined test es fs p.1 k)
-
   pub all_where : (R : K → K → Ordering) (test : K × X → Bool) (keep : K → Bool) (es : List (K × X)) → T (list_all test es) → T (list_all test (where_key R keep es))
   all_where R test keep [] h = tt
   all_where R test keep (e ∷ es) h =

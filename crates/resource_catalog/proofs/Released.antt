@@ -17,9 +17,6 @@ module _ (names : Names) (slots : Slots) (before : Lent) (out : AreOut (places_o
   parts_apart : AreApart (places_of (name_cells names)) (places_of (slot_cells slots))
   parts_apart = apart_by_tokens _ _ before both_out
 
-  pub names_out : AreOut (places_of (name_cells names)) before
-  names_out = are_out_first _ _ before parts_apart both_out
-
   pub slots_out : AreOut (places_of (slot_cells slots)) before
   slots_out = are_out_second _ _ before parts_apart both_out
 
@@ -39,10 +36,6 @@ module _ (names : Names) (slots : Slots) (before : Lent) (out : AreOut (places_o
 
     pub slots_new : places_of (slot_cells slots) i ≡ 0
     slots_new = omega (arith, whole_places names slots i, new)
-
-    -- the commit is out still, after names have gone
-    pub lent_after : (held : ℕ → ℕ) (now : Lent) → Releases (places_of (name_cells names)) held i before now → tokens now i ≡ 1
-    lent_after held now step = omega (arith, step.tokens i, names_new, step.none_new i names_new, lent)
 
     with_commit : AreApart (places_of (name_cells names)) (both_held (places_of (slot_cells slots)) (one_of i))
     with_commit = apart_by_tokens _ _ before (are_out_as (both_held (both_held (places_of (name_cells names)) (places_of (slot_cells slots))) (one_of i)) (both_held (places_of (name_cells names)) (both_held (places_of (slot_cells slots)) (one_of i))) before

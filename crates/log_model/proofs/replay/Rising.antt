@@ -14,12 +14,10 @@ use Rattle.host_types.specs.declared.entry.Reply.{Reply}
 use Rattle.log_model.specs.cleaning.Cells.{Numbered}
 use Rattle.log_model.specs.plain.Plain.{Kept_reply, Kept_batch, Session}
 use Rattle.log_model.specs.plain.Step.{one_batch, events_of, changed, with_reply}
-use Rattle.log_model.specs.hosted.Hosted.{Hosted}
-use Rattle.log_model.specs.replay.Replay.{Telling, noted, trimmed, pushed, replay_alive, replay_reply, replay_sessions, replay_entry, replay_from}
+use Rattle.log_model.specs.replay.Replay.{noted, trimmed, pushed, replay_alive, replay_reply, replay_sessions}
 use Rattle.log_model.specs.hosted.Sound.{Above, Rises}
 use Rattle.log_model.proofs.Lookups.{tied_true, tied_same}
 use Rattle.log_model.proofs.cleaning.Joined.{Below}
-use Rattle.log_model.proofs.cleaning.Indexed.{sorted_parts}
 use Rattle.log_model.proofs.plain.Tracks.{changed_id, found_session}
 
 -- each id is below all indexes of the entries
@@ -106,13 +104,6 @@ rising_next cut t told (Close session expired) i e es ss low d r =
 rising_next cut t told Tick i e es ss low d r = (ready_next (i, e) es ss d, r)
 rising_next cut t told (Command session seq effect reply) i e es ss low d r =
     both_changed session (replay_reply cut seq i reply) (reply_id cut seq i reply) es _ (both_cond (nat_lt cut i) (pushing i told) (λ x. push_id i (events_of x.id told) x) es ss (ready_next (i, e) es ss d, r))
-
-pub rising_run : (telling : Telling) (cut : ℕ) (s : Hosted) (xs : Numbered) → T (is_sorted nat_cmp xs) → Ready xs s.sessions → Rises s.sessions → Rises (replay_from telling cut s xs).sessions
-rising_run telling cut s [] k d r = r
-rising_run telling cut s (x ∷ xs) k d r =
-    let p = sorted_parts x xs k in
-    let q = rising_next cut x.1.time (telling s.cells x.0 x.1.body) x.1.body x.0 x.1 xs s.sessions p.0 d r in
-    rising_run telling cut (replay_entry telling cut s x) xs p.1 q.0 q.1
 
 -- lists by rising id with the same look-ups
 
