@@ -10,6 +10,7 @@ use Rattle.host_types.specs.Decision.{MachineDecision, MachineIsLawful}
 use Rattle.host_types.specs.Ranges.{EntryFits, IsInRange, IsIndex, OfferFits}
 use Rattle.host_types.specs.declared.entry.Ask.{Ask}
 use Rattle.machine.specs.Release.{AreOut}
+use Rattle.machine.proofs.ReleaseLaws.{are_out_first}
 use Rattle.host_core.specs.Answers.{Decides_as, IsStorable, Judges, asked_admission, asked_body}
 use Rattle.host_core.specs.Batching.{told_by}
 use Rattle.std.proofs.lemmas.Bool.{false_from_ne_true}
@@ -40,7 +41,7 @@ use Rattle.host_core.specs.Entering.{Entered, Meets}
 use Rattle.host_core.specs.Parts.{sessions_after}
 use Rattle.host_core.specs.Seen.{Seen, IsKept, hosted}
 use Rattle.host_core.proofs.Parts.{parts_follow, session_part}
-use Rattle.host_core.proofs.Standing.{places-append, one_token, out_after}
+use Rattle.host_core.proofs.Standing.{places-append, parts_apart, out_after}
 
 -- what a machine tells is what a host tells, whose cells are the machine's and those of its sessions
 told_is : (d : MachineDecision) (c machine : Cells) (i : ℕ) (b : Body) → machine_cells c ≡ machine → hosted_told d c i b ≡ told_by d machine i b
@@ -77,7 +78,9 @@ module _ {M : Type 0} (cells : M → Cells) (d : MachineDecision) (s : Seen M) (
 
   -- each part is out by itself
   pub machine_is_out : AreOut (places_of (cells s.machine)) s.lender
-  machine_is_out j some = let all = k.out j in let sum = places-append (cells s.machine) (table_cells s.sessions) j in let one = one_token s.lender j in omega (arith, some, all, sum, one)
+  machine_is_out =
+      are_out_first (places_of (cells s.machine)) (places_of (table_cells s.sessions)) s.lender (parts_apart (hosted cells s) k.sound (cells s.machine) (table_cells s.sessions) k.machine k.sessions)
+      (λ j some. k.out j ∙ places-append (cells s.machine) (table_cells s.sessions) j)
 
   pub table_is_out : (lent : Lent) → ((j : ℕ) → tokens lent j + places_of (cells s.machine) j ≡ tokens s.lender j) → AreOut (places_of (table_cells s.sessions)) lent
   table_is_out lent went j some = let all = k.out j in let sum = places-append (cells s.machine) (table_cells s.sessions) j in let left = went j in omega (arith, some, all, sum, left)
@@ -159,7 +162,7 @@ module _ {M : Type 0} (cells : M → Cells) (d : MachineDecision) (s : Seen M) (
       sessions = ap session_cells (sym cells_are) ∙ session_part (hosted cells s).cells index (T_from _ k.sound.cells_rise) e.time e.body ∙ ap (sessions_after index e) k.sessions ∙ sym entered.table_is;
       out = λ j.
           ap (λ o. cond (Rattle.std.specs.FinSet.contains o j) 1 0) out
-          ∙ out_after index (cells s.machine) s.sessions lent (meets index lent behind lends).out (cells machine) table lent' entered.released j
+          ∙ out_after index (cells s.machine) s.sessions lent (meets index lent behind lends) (cells machine) table lent' entered.released j
           ∙ sym (places-append (cells machine) (table_cells table) j);
       closed = closed;
     }

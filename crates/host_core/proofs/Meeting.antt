@@ -15,13 +15,11 @@ use Rattle.machine.specs.Release.{AreOut, CreatesAnew, Releases}
 use Rattle.machine.proofs.ReleaseLaws.{releases_as, releases_none}
 use Rattle.event_batches.specs.Rising.{AreBelow}
 use Rattle.log_model.specs.plain.Plain.{Kept_batch, Kept_reply, Session, session_in}
-use Rattle.log_model.specs.hosted.Hosted.{Hosted}
 use Rattle.log_model.specs.hosted.Parts.{machine_after, put_owner_stands}
-use Rattle.log_model.specs.hosted.Sound.{IsSessionSound, IsPast, IsFree, Rises}
+use Rattle.log_model.specs.hosted.Sound.{IsSessionSound, IsPast, Rises}
 use Rattle.log_model.specs.plain.Step.{changed, new_session, one_batch, with_reply}
 use Rattle.log_model.specs.replay.Replay.{noted, pushed, replay_alive, replay_reply}
 use Rattle.log_model.proofs.hosted.Admitted.{changed_same}
-use Rattle.log_model.proofs.hosted.Free.{index_free}
 use Rattle.log_model.specs.cleaning.Cells.{after}
 use Rattle.log_model.proofs.hosted.Sounds.{each_found, each_map, each_weaker, open_mapped}
 use Rattle.log_model.proofs.plain.OneSession.{closed_found}
@@ -34,41 +32,32 @@ use Rattle.host_core.specs.Batching.{AreBatchesOf, Batches, CanTakeAll, HaveBatc
 use Rattle.host_core.specs.Entering.{AreKeptBefore, Entered, Meets, beside_after, has_owner, held_at, held_with}
 use Rattle.host_core.proofs.Giving.{given, given_above}
 use Rattle.host_core.proofs.Parts.{at_sessions}
-use Rattle.host_core.proofs.Standing.{places-append, by_machine, by_table, commit_out, machine_out, table_out}
+use Rattle.host_core.proofs.Standing.{by_machine, by_table, commit_out, free, machine_out, none_held_at, table_out}
 use Rattle.host_core.proofs.Tables.{found_stands, not_heard, not_changed, ended, not_ended}
 
 module _ (index : ℕ) (machine : Cells) (table : Table) (lent : Lent) (m : Meets index machine table lent) where
   abbrev all : Cells
   all = machine ++ table_cells table
 
-  abbrev s : Hosted
-  s = record { last = m.last; now = m.time; sessions = table.sessions; cells = all }
-
-  free : IsFree s index
-  free = index_free s index m.sound m.behind
-
   -- the commit holds no place
-  pub none_held_at : held_at machine table index ≡ 0
-  none_held_at = let sum = places-append machine (table_cells table) index in let none = free.unheld in omega (arith, sum, none)
-
   pub none_of_table : places_of (table_cells table) index ≡ 0
-  none_of_table = let none = none_held_at in omega (arith, none)
+  none_of_table = let none = none_held_at index machine table lent m in omega (arith, none)
 
   pub none_held : places_of machine index ≡ 0
-  none_held = let none = none_held_at in omega (arith, none)
+  none_held = let none = none_held_at index machine table lent m in omega (arith, none)
 
   pub is_lent : tokens lent index ≡ 1
-  is_lent = commit_out index machine table lent m.out none_held_at
+  is_lent = commit_out index machine table lent m
 
   pub machine_is_out : AreOut (places_of machine) lent
-  machine_is_out = machine_out index machine table lent m.out
+  machine_is_out = machine_out index machine table lent m
 
   pub table_is_out : AreOut (places_of (table_cells table)) lent
-  table_is_out = table_out index machine table lent m.out
+  table_is_out = table_out index machine table lent m
 
   -- no cell of a new instance stands
   pub anew : (f : Effect) → CreatesAnew machine index f
-  anew (Create name kind) = (let low = m.behind in omega (arith, low), ap (list_any (is_in_instance index)) (sym m.machine_is) ∙ free.empty)
+  anew (Create name kind) = (let low = m.behind in omega (arith, low), ap (list_any (is_in_instance index)) (sym m.machine_is) ∙ (free index machine table lent m).empty)
   anew Nothing = tt
   anew (Delete name instance) = tt
   anew (Put instance cell content owner) = tt
@@ -318,7 +307,7 @@ module _ (index time cut : ℕ) (told : List (ℕ × Event)) (machine : Cells) (
     table_is = table_is;
     sessions_are = sessions;
     beside_is = beside;
-    released = by_table index machine table lent m.out table' lent' step;
+    released = by_table index machine table lent m table' lent' step;
   }
 
   pub entered_tick : (lent' : Lent) → ((held : ℕ → ℕ) → held index ≡ 0 → Releases (λ j. held j + one_of index j) held index lent lent') → Done Tick machine table lent'
@@ -353,5 +342,5 @@ module _ (index time cut : ℕ) (told : List (ℕ × Event)) (machine : Cells) (
     table_is = ap cells_of (stays ∙ same);
     sessions_are = sessions ∙ ap (changed session (replay_reply cut seq index reply)) (given_are ∙ given_above cut index told None table.sessions batches are table.sessions (all_hear table.sessions));
     beside_is = stays ∙ same;
-    released = subst (λ bs. Releases (held_with index machine table) (λ j. places_of machine' j + places_of (cells_of bs) j) index lent lent') (sym (stays ∙ same)) (by_machine index machine table lent m.out machine' lent' step);
+    released = subst (λ bs. Releases (held_with index machine table) (λ j. places_of machine' j + places_of (cells_of bs) j) index lent lent') (sym (stays ∙ same)) (by_machine index machine table lent m machine' lent' step);
   }

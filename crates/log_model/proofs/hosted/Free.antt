@@ -10,7 +10,7 @@ use Rattle.host_types.proofs.Places.{place_total, exact_places}
 use Rattle.log_model.proofs.Lookups.{T_from, found_from_any}
 use Rattle.log_model.proofs.hosted.Parts.{at_machine, sorted_machine}
 
-none_counted : (i : ℕ) (c : Cells) → list_any (λ (y : Place × Held). y.1.index == i) c ≡ false → count_by (λ (y : Place × Held). y.1.index == i) c ≡ 0
+pub none_counted : (i : ℕ) (c : Cells) → list_any (λ (y : Place × Held). y.1.index == i) c ≡ false → count_by (λ (y : Place × Held). y.1.index == i) c ≡ 0
 none_counted i [] e = refl
 none_counted i (x ∷ c) e =
     let p = Rattle.std.proofs.lemmas.Bool.or_parts (x.1.index == i) (list_any (λ (y : Place × Held). y.1.index == i) c) e in

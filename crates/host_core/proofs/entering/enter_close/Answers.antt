@@ -6,7 +6,7 @@ use Rattle.machine.specs.Release.{Releases}
 use Rattle.machine.proofs.ReleaseLaws.{releases_none}
 use Rattle.session_table.specs.Table.{Table}
 use Rattle.host_core.proofs.Standing.{by_both}
-use Rattle.host_core.proofs.Meeting.{none_held_at, shut, without_none, end_stays, end_stays_beside}
+use Rattle.host_core.proofs.Meeting.{shut, without_none, end_stays, end_stays_beside}
 use Rattle.host_core.proofs.entering.enter_close.Goals.{then-is_some, else-is_some}
 use Rattle.host_core.proofs.entering.enter_close.Goals as goal
 
@@ -43,8 +43,7 @@ returns-clause-released κs c =
     let mid = c.forget_owner.new.lender in
     let same = c.index-index.ensures in
     let own = places_of (table_cells table) in
-    by_both c.args.commit machine table c.args.lender.now c.requires.meets.out (κs.M.Machine.cells c.forget_owner.new.self) c.if-is_some.sessions mid c.if-is_some.lender c.close_own.new.lender
-    (none_held_at c.args.commit machine table c.args.lender.now c.requires.meets)
+    by_both c.args.commit machine table c.args.lender.now c.requires.meets (κs.M.Machine.cells c.forget_owner.new.self) c.if-is_some.sessions mid c.if-is_some.lender c.close_own.new.lender
     (subst (λ i. Releases (places_of machine) (places_of (κs.M.Machine.cells c.forget_owner.new.self)) i c.args.lender.now mid) same c.forget_owner.ensures.released)
     (elim c.if-is_some.branch [
       | then-is_some w ↦
