@@ -22,6 +22,7 @@ use Rattle.log_model.specs.plain.Fitting.{ItemFits}
 use Rattle.log_model.specs.hosted.Hosted.{Hosted, hosted_admits, hosted_entry, hosted_expires, hosted_folded, hosted_told}
 use Rattle.log_model.specs.cleaning.Layout.{Layout, alone, needs_file, with_entry}
 use Rattle.log_model.specs.hosted.Machines.{LogsAreSound}
+use Rattle.log_model.specs.hosted.PlainMachine.{HostsArePlain, IsAsPlain}
 use Rattle.log_model.specs.hosted.Sound.{IsSessionSound}
 use Rattle.log_model.specs.plain.Plain.{Session}
 use Rattle.log_model.specs.replay.Replay.{pushed, replay_batches, replay_entry}
@@ -39,7 +40,6 @@ use Rattle.host_recovery.specs.declared.answers.HostError.TheVariants as errors
 use Rattle.resource_catalog.specs.Catalog.{catalog_decision}
 use Rattle.resource_catalog.specs.CatalogLaws.{catalog_lawful}
 use Rattle.resource_catalog.specs.Parts.{Parts, cells_of}
-use Rattle.resource_catalog.specs.PlainNames.{AsksForBuilt, HostsAsModel, IsItemOfBuilt, LogsAreAsModel}
 use Rattle.script_text.specs.declared.printed.Printed.{Printed}
 use Rattle.script_text.specs.declared.printed.Printed.TheVariants as prints
 use Rattle.script_text.specs.Printing.{printed_text}
@@ -51,7 +51,7 @@ use Rattle.copycat_tool.specs.Logs.{IsLog, StandsFor}
 use Rattle.copycat_tool.specs.Report.{Run, Act, Change, Nothing, Stores, admission, admits_file, answer_by, changed, expired_answer, expiry, expiry_in, reopening, Reopens, stored_as}
 use Rattle.copycat_tool.specs.Runs.{Files, StandsEither}
 use Rattle.copycat_tool.specs.Standing.{IsAt, IsCut, IsMade}
-use Rattle.copycat_tool.proofs.LogLemmas.{due_session, each_more, expires_when, fewer_due, id_past, logged_more}
+use Rattle.copycat_tool.proofs.LogLemmas.{due_session, expires_when, fewer_due, id_past, logged_more}
 use Rattle.copycat_tool.proofs.TurnLemmas.{made_nothing}
 
 -- what a host that stands at a log says of its files and of its state
@@ -62,9 +62,9 @@ pub record Keeps {D : Type 0} (view : D → View) (h : Seen D Parts) : Type 0 wh
   pub layout : (items : List Item) → StandsAt catalog_decision view cells_of h items → LiesAlone h.parts.name (view h.disk).reading (alone (layout_in (view h.disk) h.parts))
   pub file : (items : List Item) → StandsAt catalog_decision view cells_of h items → needs_file (layout_in (view h.disk) h.parts) ≡ is_none h.parts.tail
 
-module _ (law : LogsAreAsModel) where
-  pub as_model : (log : List Item) → IsLog log → HostsAsModel log
-  as_model log is = (law log is.built).1 is.admitted
+module _ (law : HostsArePlain catalog_decision) where
+  pub as_model : (log : List Item) → IsLog log → IsAsPlain catalog_decision log
+  as_model log is = (law log).1 is.admitted
 
   -- ---- logs of the host, and plain ones
 
@@ -76,10 +76,10 @@ module _ (law : LogsAreAsModel) where
   hosted_files name log is image s = subst (λ (es : List Entry). Stands (folder name image) es) (sym (as_model log is).same_entries) s
 
   pub as_hosted : (log : List Item) → IsLog log → HostIsLog catalog_decision log
-  as_hosted log is = record { admitted = subst IsTrue (sym (law log is.built).0) is.admitted; fits = is.fits }
+  as_hosted log is = record { admitted = subst IsTrue (sym (law log).0) is.admitted; fits = is.fits }
 
-  pub from_hosted : (log : List Item) → AllByRecursion IsItemOfBuilt log → HostIsLog catalog_decision log → IsLog log
-  from_hosted log built is = record { admitted = subst IsTrue (law log built).0 is.admitted; fits = is.fits; built = built }
+  pub from_hosted : (log : List Item) → HostIsLog catalog_decision log → IsLog log
+  from_hosted log is = record { admitted = subst IsTrue (law log).0 is.admitted; fits = is.fits }
 
   -- ---- where the host stands
 
@@ -121,13 +121,13 @@ module _ (law : LogsAreAsModel) where
     logged : IsLog run.log
     logged = at.rest.logged
 
-    model : HostsAsModel run.log
+    model : IsAsPlain catalog_decision run.log
     model = as_model run.log logged
 
     file_admits : host_admits_file old.parts ≡ admits_file run.layout
     file_admits = λ i. refused_if (sym at.file_is i && nat_le index_limit (ap (λ (l : Layout). l.greatest) at.layout_is i)) (GenEnd (ap (λ (l : Layout). l.greatest) at.layout_is i))
 
-    module _ (item : Item) (built : IsItemOfBuilt item) where
+    module _ (item : Item) where
       -- it was stored
       pub made_stored : (this : Act) → this.does ≡ Stores (item ∷ []) → StandsAt catalog_decision view cells_of new (run.log ++ item ∷ [])
           → layout_in (view new.disk) new.parts ≡ with_entry old.size (layout_in (view old.disk) old.parts)
@@ -138,7 +138,7 @@ module _ (law : LogsAreAsModel) where
           next = changed files.size run (Stores (item ∷ []))
 
           more : IsLog (run.log ++ item ∷ [])
-          more = from_hosted (run.log ++ item ∷ []) (each_more IsItemOfBuilt run.log item logged.built built) stands.log
+          more = from_hosted (run.log ++ item ∷ []) stands.log
 
           there : IsAt view files new next
           there = is_at view files new keeps sound next (name_is ∙ at.name_is) (size_is ∙ at.size_is) stands more
@@ -157,7 +157,7 @@ module _ (law : LogsAreAsModel) where
       pub cut_stored : (ending : Ending) → (ending ≡ DiskFault) ⊎ (ending ≡ NoMemory) → IsEmptyWhereNone (view new.disk) old.parts.name → is_admitted (folded run.log) item ≡ true → ItemFits item
           → LeavesOnly (view old.disk) (view new.disk) (StandsOrGains catalog_decision old.parts.name run.log item) → IsCut files (view old.disk) (view new.disk) run (Stores (item ∷ [])) ending
       cut_stored ending ending_is empty here fits moments =
-          let more = logged_more run.log item logged here fits built in
+          let more = logged_more run.log item logged here fits in
           record {
             ending_is = ending_is;
             sound = sound;
@@ -179,20 +179,20 @@ module _ (law : LogsAreAsModel) where
 
     -- ---- an offer
 
-    module _ (one : Offer) (built : AsksForBuilt one.ask) where
+    module _ (one : Offer) where
       abbrev host_admission : Admission
       host_admission = admits_stored (hosted_admits catalog_decision (hosted cells_of old.core) one) old.parts
 
       pub admission_is : host_admission ≡ admission run one
       admission_is =
-          let state : hosted_admits catalog_decision (hosted cells_of old.core) one ≡ admits (folded run.log) one = ap (λ (s : Hosted). hosted_admits catalog_decision s one) at.stands.state ∙ model.same_admission one built in
+          let state : hosted_admits catalog_decision (hosted cells_of old.core) one ≡ admits (folded run.log) one = ap (λ (s : Hosted). hosted_admits catalog_decision s one) at.stands.state ∙ model.same_admission one in
           λ i. first_refusal (state i ∷ file_admits i ∷ [])
 
       abbrev host_body : Body
       host_body = (hosted_entry catalog_decision (hosted cells_of old.core) (Offered one)).body
 
       body_is : host_body ≡ (entry_of (folded run.log) (Offered one)).body
-      body_is = ap (λ (s : Hosted). (hosted_entry catalog_decision s (Offered one)).body) at.stands.state ∙ ap (λ (e : Entry). e.body) (model.same_entry (Offered one) built)
+      body_is = ap (λ (s : Hosted). (hosted_entry catalog_decision s (Offered one)).body) at.stands.state ∙ ap (λ (e : Entry). e.body) (model.same_entry (Offered one))
 
       printed_as : (index : ℕ) (body : Body) → printed_of (answer_of index body) ≡ stored_as index body
       printed_as index (bodies.Register timeout) = refl
@@ -212,7 +212,7 @@ module _ (law : LogsAreAsModel) where
           let text : printed_of answer ≡ stored_as (length run.log + 1) (entry_of (folded run.log) (Offered one)).body = ap printed_of is ∙ printed_as _ host_body ∙ (λ i. stored_as (at.last_is i + 1) (body_is i)) in
           let gained = subst (λ (a : Admission). LeavesOnly (view old.disk) (view new.disk) (StandsOrTakes catalog_decision old.parts.name run.log (Offered one) a)) here moments in
           subst (λ (a : Admission). Told a (printed_of answer)) (sym here ∙ admission_is)
-          (record { line_is = ap (λ (p : Printed). printed_text p ∷ []) (sym text); made = made_stored (Offered one) built (answer_by Admitted run one) refl stands layout gained })
+          (record { line_is = ap (λ (p : Printed). printed_text p ∷ []) (sym text); made = made_stored (Offered one) (answer_by Admitted run one) refl stands layout gained })
 
       same_told : (adm : Admission) (printed : Printed) → host_admission ≡ adm → new ≡ old → (answer_by adm run one).lines ≡ printed_text printed ∷ [] → (answer_by adm run one).does ≡ Nothing → Told (admission run one) printed
       same_told adm printed here same line does =
@@ -244,7 +244,7 @@ module _ (law : LogsAreAsModel) where
           → LeavesOnly (view old.disk) (view new.disk) (StandsOrTakes catalog_decision old.parts.name run.log (Offered one) adm)
           → IsCut files (view old.disk) (view new.disk) run (answer_by adm run one).does ending
       cut_by ending ending_is fits empty Admitted here moments =
-          cut_stored (Offered one) built ending ending_is empty (admitted_first (admits (folded run.log) one) (admits_file run.layout) here) fits moments
+          cut_stored (Offered one) ending ending_is empty (admitted_first (admits (folded run.log) one) (admits_file run.layout) here) fits moments
       cut_by ending ending_is fits empty (Repeats reply) here moments = cut_still ending ending_is empty moments Nothing refl
       cut_by ending ending_is fits empty (Refused why) here moments = cut_still ending ending_is empty moments Nothing refl
 
@@ -306,7 +306,7 @@ module _ (law : LogsAreAsModel) where
             sym expiry_is ∙ filed,
             record {
               line_is = ap (λ (n : ℕ). printed_text (prints.Expired n one.1) ∷ []) (sym (is.3 ∙ ap (λ (n : ℕ). n + 1) at.last_is));
-              made = made_stored (Expired time one.1) tt (expired_answer run time one.1) refl stands layout gained;
+              made = made_stored (Expired time one.1) (expired_answer run time one.1) refl stands layout gained;
             },
           )
       expiry_answered (Err errors.Stopped) is same after stands layout moments = tt
@@ -324,7 +324,7 @@ module _ (law : LogsAreAsModel) where
           let due = due_session (folded run.log).last (folded run.log).now (folded run.log).sessions time session there in
           let le = id_past (folded run.log).last time session (folded run.log).sessions past' due in
           let top : (folded run.log).last ≤ index_limit = subst (λ (h : Hosted). h.last ≤ index_limit) model.same_fold fold.sound.last_in_range in
-          cut_stored (Expired time session) tt ending ending_is empty
+          cut_stored (Expired time session) ending ending_is empty
           (ap (is_expiry_of session) there ∙ nat_eq_equiv.refl session) (small, omega (arith, le, top)) moments
       cut_of ending ending_is small sounds empty Nobody here moments = cut_still ending ending_is empty moments Nothing refl
       cut_of ending ending_is small sounds empty (Not_now why) here moments = cut_still ending ending_is empty moments Nothing refl

@@ -42,7 +42,7 @@ module _ (v : View) (settled : EachSettled v) where
 
   pub empty_in_order : (name : List ℕ) → ((id : FileId) → v.reading (place name id) ≡ None) → IsInOrder name v [] 0
   empty_in_order name none = record {
-    logged = record { admitted = refl; fits = tt; built = tt };
+    logged = record { admitted = refl; fits = tt };
     each = λ image may. all_of name [] 0 image (omega arith) (record { parts = []; choice = no_parts (folder name image) (closed_files name none image may); are = are_none });
     empty = λ no image may. no_parts (folder name image) (closed_files name none image may);
   }

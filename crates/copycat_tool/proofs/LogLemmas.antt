@@ -12,7 +12,6 @@ use Rattle.log_model.specs.plain.Fitting.{ItemFits}
 use Rattle.log_model.specs.hosted.Sound.{IsSessionSound}
 use Rattle.log_model.specs.plain.Step.{step, fold_from, folded, with_batches, told_close}
 use Rattle.log_model.specs.plain.Stored.{is_admitted, is_log_from}
-use Rattle.resource_catalog.specs.PlainNames.{IsItemOfBuilt}
 use Rattle.log_model.specs.cleaning.Layout.{Layout}
 use Rattle.copycat_tool.specs.Logs.{IsLog}
 use Rattle.host_recovery.specs.Answers.{if_filed}
@@ -33,15 +32,14 @@ log_more s (x ∷ items) item log here =
     let p = and_parts (is_admitted s x) (is_log_from (step s x) items) log in
     (λ i. p.0 i && log_more (step s x) items item p.1 here i)
 
-pub each_more : (P : Item → Type 0) (items : List Item) (item : Item) → AllByRecursion P items → P item → AllByRecursion P (items ++ item ∷ [])
+each_more : (P : Item → Type 0) (items : List Item) (item : Item) → AllByRecursion P items → P item → AllByRecursion P (items ++ item ∷ [])
 each_more P [] item all here = (here, tt)
 each_more P (x ∷ items) item all here = (all.0, each_more P items item all.1 here)
 
-pub logged_more : (log : List Item) (item : Item) → IsLog log → is_admitted (folded log) item ≡ true → ItemFits item → IsItemOfBuilt item → IsLog (log ++ item ∷ [])
-logged_more log item is here fits built = record {
+pub logged_more : (log : List Item) (item : Item) → IsLog log → is_admitted (folded log) item ≡ true → ItemFits item → IsLog (log ++ item ∷ [])
+logged_more log item is here fits = record {
   admitted = log_more nothing_yet log item is.admitted here;
   fits = each_more ItemFits log item is.fits fits;
-  built = each_more IsItemOfBuilt log item is.built built;
 }
 
 -- ---- a prefix
@@ -62,7 +60,6 @@ pub logged_front : (n : ℕ) (log : List Item) → IsLog log → IsLog (take n l
 logged_front n log is = record {
   admitted = log_front nothing_yet n log is.admitted;
   fits = each_front ItemFits n log is.fits;
-  built = each_front IsItemOfBuilt n log is.built;
 }
 
 -- ---- who expires

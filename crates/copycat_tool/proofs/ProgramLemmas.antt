@@ -15,9 +15,9 @@ use Rattle.segment_set.specs.Opening.{id_from}
 use Rattle.segment_set.proofs.Images.{nothing, only_one}
 use Rattle.segment_set.proofs.Faultless.{no_fault}
 use Rattle.log_model.specs.plain.Admission.{Item}
+use Rattle.log_model.specs.hosted.PlainMachine.{HostsArePlain}
 use Rattle.host_recovery.specs.Opening.{HasPrefix as HostHasPrefix, IsInOrder as HostIsInOrder}
 use Rattle.resource_catalog.specs.Catalog.{catalog_decision}
-use Rattle.resource_catalog.specs.PlainNames.{LogsAreAsModel}
 use Rattle.copycat_tool.specs.Report.{Run}
 use Rattle.host_recovery.specs.Lying.{Lies}
 use Rattle.copycat_tool.specs.Logs.{IsLog, StandsFor}
@@ -32,7 +32,7 @@ use Rattle.copycat_tool.proofs.LogLemmas.{logged_front}
 
 -- PLAIN LOGS AND THOSE OF THE HOST
 
-module _ (law : LogsAreAsModel) (name : List ℕ) (log : List Item) (least : ℕ) (logged : IsLog log) where
+module _ (law : HostsArePlain catalog_decision) (name : List ℕ) (log : List Item) (least : ℕ) (logged : IsLog log) where
   hosted_prefix : (image : Image) → HasPrefix name log least image → HostHasPrefix catalog_decision name log least image
   hosted_prefix image p = record { count = p.count; enough = p.enough; within = p.within; stands = hosted_files law name (take p.count log) (logged_front p.count log logged) image p.is }
 

@@ -1,19 +1,15 @@
 -- The logs that the program takes, and the files that stand for them.
 use Rattle.std.specs.Prelude.{ℕ, List, IsTrue}
-use Rattle.std.specs.List.{AllByRecursion}
 use Rattle.disk_model.specs.Image.{Image}
 use Rattle.segment_files.specs.Folder.{folder, Stands}
 use Rattle.log_model.specs.plain.Admission.{Item}
 use Rattle.log_model.specs.plain.Fitting.{ItemsFit}
 use Rattle.log_model.specs.plain.Stored.{stored, is_log}
-use Rattle.resource_catalog.specs.PlainNames.{IsItemOfBuilt}
 
--- A log that the program may have taken: each item was admitted where it stands, is as the program's types have it, and creates
--- nothing of a kind that isn't built.
+-- A log that the program may have taken: each item was admitted where it stands, and is as the program's types have it.
 pub record IsLog (log : List Item) : Type 0 where
   pub admitted : IsTrue (is_log log)
   pub fits : ItemsFit log
-  pub built : AllByRecursion IsItemOfBuilt log
 
 -- Under this name an image stands for this log: its files hold what is stored of it.
 abbrev pub StandsFor : List ℕ → Image → List Item → Type 0

@@ -1,15 +1,9 @@
 -- The lines of a script, and what each asks of the program.
 use Rattle.std.specs.Prelude.{◌≡◌, ℕ, ◌==◌, nat_lt, Bool, true, false, ◌||◌, if◌then◌else◌, List, [], ◌∷◌, length, Option, Some, None}
 use Rattle.host_types.specs.Decision.{is_looking}
-use Rattle.host_types.specs.declared.entry.Ask as asked
-use Rattle.host_types.specs.declared.entry.Ask.TheVariants as asks
-use Rattle.host_types.specs.declared.entry.Op.{Op}
-use Rattle.host_types.specs.declared.entry.Op.TheVariants.{Create}
 use Rattle.script_text.specs.declared.line.Line.{Line}
 use Rattle.script_text.specs.declared.line.Line.TheVariants as lines_of
 use Rattle.script_text.specs.Reading.{line_read}
-use Rattle.resource_catalog.specs.Kinds.{is_built}
-use Rattle.resource_catalog.specs.PlainNames.{AsksForBuilt}
 use Rattle.copycat_tool.specs.declared.lines.Command.{Command}
 use Rattle.copycat_tool.specs.declared.lines.Command.TheVariants.{Skip, Offer, Ask, Quiet, Reopen}
 
@@ -40,19 +34,10 @@ line_limit = 16384
 abbrev pub script_limit : ℕ
 script_limit = 16777216
 
--- it creates nothing of a kind that isn't built
-abbrev pub is_built_op : Op → Bool
-is_built_op (Create kind) = is_built kind
-is_built_op _ = true
-
-abbrev pub is_built_ask : asked.Ask → Bool
-is_built_ask (asks.Command session seq name op) = is_built_op op
-is_built_ask _ = true
-
 -- the command of a line of the language, if it is built
 abbrev pub command_of : Line → Option Command
 command_of lines_of.Skip = Some Skip
-command_of (lines_of.Offer o) = if is_built_ask o.ask then Some (Offer o) else None
+command_of (lines_of.Offer o) = Some (Offer o)
 command_of (lines_of.Ask name op) = Some (Ask name op)
 command_of lines_of.Quiet = Some Quiet
 command_of lines_of.Reopen = Some Reopen
@@ -68,6 +53,5 @@ command line = if nat_lt line_limit (length line) then None else if_line (line_r
 
 -- what is known of a command that a line asks
 abbrev pub IsFit : Command → Type 0
-IsFit (Offer o) = AsksForBuilt o.ask
 IsFit (Ask name op) = is_looking op ≡ true
 IsFit _ = Unit {0}

@@ -2,7 +2,6 @@
 ghost use Rattle.std.specs.Prelude.{◌≡◌, ◌∷◌, [], false, true, IsTrue, ℕ, IfOk, IfErr, OnOk, Err, length};
 ghost use Rattle.host_types.specs.Decision.{is_looking};
 ghost use Rattle.script_text.specs.Printing.{HasRange, printed_text};
-ghost use Rattle.resource_catalog.specs.PlainNames.{AsksForBuilt};
 ghost use Rattle.copycat_tool.specs.Report.{Run, Nothing, Reopens, Stores, admission, answer_by, expiry, look_answer, quiet_answer, reopening};
 ghost use Rattle.copycat_tool.specs.Runs.{Files};
 ghost use Rattle.copycat_tool.specs.Standing.{IsAt, IsCut};
@@ -13,8 +12,8 @@ use crate::ending::Ending;
 use disk_model::Disk;
 use host_recovery::{Answer, AskError, Host, HostError};
 use host_types::{Index, Key, Offer, Op, Refusal, Time};
-use log_model::logs_are_sound;
-use resource_catalog::{Catalog, logs_of_catalogs_are_plain};
+use log_model::{logs_are_sound, plain_machines_are_plain};
+use resource_catalog::{Catalog, catalog_is_plain};
 use script_text::Printed;
 use std::alloc::Global;
 
@@ -82,7 +81,6 @@ pub fn make_offer<D: Disk>(
     host: &mut Host<D, Catalog>,
 ) -> Result<Printed, Ending>
     requires runs { host.old.stopped ≡ false }
-    requires built { AsksForBuilt one.now.ask }
     ensures runs { OnOk result (host.new.stopped ≡ false) }
     ensures plain { IfOk result HasRange }
     ensures answered { IsTrue D.tells → (files : Files) (run : Run) → IsAt D.view files host.old run
@@ -91,7 +89,8 @@ pub fn make_offer<D: Disk>(
         → IfErr result (IsCut files (D.view host.old.disk) (D.view host.new.disk) run (answer_by (admission run one.now) run one.now).does) }
     ensures keeps { KeepsRun D.tells D.view D.faults host.old host.new 0 0 ⊥ result }
 {
-    logs_of_catalogs_are_plain();
+    catalog_is_plain();
+    plain_machines_are_plain();
     one.fits();
     let answer = host.offer(alloc, one);
     host.keeps();
@@ -113,7 +112,8 @@ pub fn expire_next<D: Disk>(
         → IfErr result (IsCut files (D.view host.old.disk) (D.view host.new.disk) run (change_of (expiry run time) time)) }
     ensures keeps { KeepsRun D.tells D.view D.faults host.old host.new 0 0 ⊥ result }
 {
-    logs_of_catalogs_are_plain();
+    catalog_is_plain();
+    plain_machines_are_plain();
     logs_are_sound();
     let answer = host.expire(alloc, time);
     host.keeps();
@@ -134,7 +134,8 @@ pub fn look<D: Disk>(
         → IfOk result (λ printed. (look_answer run name.now op.now).lines ≡ printed_text printed ∷ []) }
     ensures ending { IfErr result (λ ending. ending ≡ Ending.NoMemory) }
 {
-    logs_of_catalogs_are_plain();
+    catalog_is_plain();
+    plain_machines_are_plain();
     match host.ask(alloc, name, op) {
         Ok(reply) => Ok(Printed::Answer { reply }),
         Err(AskError::Stopped) => unreachable!(),
@@ -150,7 +151,8 @@ pub fn quiet_of<D: Disk>(host: &Host<D, Catalog>) -> Printed
     ensures answered { IsTrue D.tells → (files : Files) (run : Run) → IsAt D.view files host.now run
         → (quiet_answer run).lines ≡ printed_text result ∷ [] }
 {
-    logs_of_catalogs_are_plain();
+    catalog_is_plain();
+    plain_machines_are_plain();
     Printed::Quiet {
         index: host.quiet(),
     }
@@ -167,7 +169,8 @@ pub fn reopen<D: Disk>(alloc: Global, host: &mut Host<D, Catalog>) -> Result<Pri
         → IfErr result (IsCut files (D.view host.old.disk) (D.view host.new.disk) run Reopens) }
     ensures keeps { KeepsRun D.tells D.view D.faults host.old host.new 0 0 ⊥ result }
 {
-    logs_of_catalogs_are_plain();
+    catalog_is_plain();
+    plain_machines_are_plain();
     let opened = host.reopen(alloc, Catalog::new(alloc));
     host.keeps();
     match opened {

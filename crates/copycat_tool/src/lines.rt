@@ -1,11 +1,10 @@
 // What a line of a script asks of the program.
 ghost use Rattle.std.specs.Prelude.{◌≡◌, Some, None, IfOk, IfSome};
-ghost use Rattle.copycat_tool.specs.Script.{IsFit, command, command_of, if_line, is_built_ask};
+ghost use Rattle.copycat_tool.specs.Script.{IsFit, command, command_of, if_line};
 ghost use Rattle.script_text.specs.Lines.{IsAllowed};
 ghost use Rattle.script_text.specs.Reading.{line_read};
 
-use host_types::{Ask, Key, NoMemory, Offer, Op};
-use resource_catalog::is_built;
+use host_types::{Key, NoMemory, Offer, Op};
 use script_text::{Line, LineFault, read_line};
 use std::alloc::Global;
 
@@ -27,19 +26,6 @@ pub enum Command {
     Reopen,
 }
 
-/// It creates nothing of a kind that isn't built.
-fn asks_for_built(ask: &Ask) -> bool
-    ensures { result ≡ is_built_ask ask.now }
-{
-    match ask {
-        Ask::Command {
-            op: Op::Create { kind },
-            ..
-        } => is_built(*kind),
-        _ => true,
-    }
-}
-
 /// The command of a line of the language, if it is built.
 fn command_of(line: Line) -> Option<Command>
     requires allowed { IsAllowed line }
@@ -48,13 +34,7 @@ fn command_of(line: Line) -> Option<Command>
 {
     match line {
         Line::Skip => Some(Command::Skip),
-        Line::Offer(offer) => {
-            if asks_for_built(&offer.ask) {
-                Some(Command::Offer(offer))
-            } else {
-                None
-            }
-        }
+        Line::Offer(offer) => Some(Command::Offer(offer)),
         Line::Ask { name, op } => Some(Command::Ask { name, op }),
         Line::Quiet => Some(Command::Quiet),
         Line::Reopen => Some(Command::Reopen),

@@ -7,7 +7,8 @@ ghost use Rattle.copycat_tool.specs.Opened.{OpensPlain};
 use disk_model::Disk;
 use host_recovery::Host;
 use host_types::LogName;
-use resource_catalog::{Catalog, logs_of_catalogs_are_plain};
+use log_model::plain_machines_are_plain;
+use resource_catalog::{Catalog, catalog_is_plain};
 use segment_set::OpenError;
 use std::alloc::Global;
 
@@ -24,7 +25,8 @@ pub fn open_log<D: Disk>(
     requires most { segment ≤ 65536 }
     ensures { IsTrue D.tells → (log : List Item) (least : ℕ) → IsInOrder name.now (D.view disk) log least → IfOk result (OpensPlain D.view name.now (D.view disk) log least) }
 {
-    logs_of_catalogs_are_plain();
+    catalog_is_plain();
+    plain_machines_are_plain();
     match Host::open(alloc, disk, Catalog::new(alloc), name, segment) {
         Ok(host) => {
             host.keeps();

@@ -17,7 +17,8 @@ use crate::words::{USAGE, read_words};
 use disk_model::Disk;
 use host_recovery::Host;
 use host_types::LogName;
-use resource_catalog::{Catalog, logs_of_catalogs_are_plain};
+use log_model::plain_machines_are_plain;
+use resource_catalog::{Catalog, catalog_is_plain};
 use script_io::{Sink, Source};
 use std::alloc::Global;
 
@@ -42,7 +43,8 @@ fn run_log<I: Source, D: Disk, O: Sink>(
     ensures causes { HasCauses (Rose (I.faults script.old) (I.faults script.new)) (Rose (O.faults out.old) (O.faults out.new)) (D.faults disk < D.faults result.1) result.0.0 }
     ensures front { (bytes : List ℕ) → I.left script.old ≡ Some bytes → IsFrontOf bytes (I.left script.new) }
 {
-    logs_of_catalogs_are_plain();
+    catalog_is_plain();
+    plain_machines_are_plain();
     match Host::open(alloc, disk, Catalog::new(alloc), name, size) {
         Ok(mut host) => {
             host.keeps();

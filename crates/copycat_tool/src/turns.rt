@@ -2,7 +2,6 @@
 ghost use Rattle.std.specs.Prelude.{◌≡◌, ◌≤◌, ◌∷◌, [], IsTrue, OnOk, false, true};
 ghost use Rattle.host_types.specs.Decision.{is_looking};
 ghost use Rattle.script_text.specs.Printing.{HasRange, printed_line};
-ghost use Rattle.resource_catalog.specs.PlainNames.{AsksForBuilt};
 ghost use Rattle.copycat_tool.specs.Script.{IsFit};
 ghost use Rattle.copycat_tool.specs.Report.{Run, admission, answer_by, answers_to, look_answer, offered, reopening};
 ghost use Rattle.copycat_tool.specs.Runs.{Files};
@@ -74,7 +73,6 @@ fn answer_offer<D: Disk, O: Sink>(
     out: &mut O,
 ) -> Result<(), Ending>
     requires runs { host.old.stopped ≡ false }
-    requires built { AsksForBuilt one.now.ask }
     ensures runs { OnOk result (host.new.stopped ≡ false) }
     ensures answers { IsTrue D.tells → (files : Files) (run : Run) → IsAt D.view files host.old run
         → Answers D.view files (answer_by (admission run one.now) run one.now ∷ []) host.old host.new run (O.written out.old) (O.written out.new) result }
@@ -95,7 +93,6 @@ fn answer_line_of_offer<D: Disk, O: Sink>(
     out: &mut O,
 ) -> Result<(), Ending>
     requires runs { host.old.stopped ≡ false }
-    requires built { AsksForBuilt one.now.ask }
     ensures runs { OnOk result (host.new.stopped ≡ false) }
     ensures answers { IsTrue D.tells → (files : Files) (run : Run) → IsAt D.view files host.old run
         → Answers D.view files (offered files.size run one.now) host.old host.new run (O.written out.old) (O.written out.new) result }

@@ -14,7 +14,8 @@ use Rattle.machine.specs.declared.decision.Decision.{Decision}
 use Rattle.machine.specs.declared.decision.Refuse.{Refuse}
 use Rattle.resource_catalog.specs.declared.names.Named.{Named}
 use Rattle.resource_catalog.specs.declared.slots.Slot.{Slot}
-use Rattle.resource_catalog.specs.Kinds.{any_kind, any_instance, any_cells, decision_of}
+use Rattle.log_model.specs.kinds.Reading.{kind_decision}
+use Rattle.resource_catalog.specs.Kinds.{any_kind, any_instance, any_cells}
 use Rattle.resource_catalog.specs.Catalog.{part, names_in, choice_new, choice_there, choice_at, look_at}
 use Rattle.resource_catalog.specs.Parts.{Names, Slots, name_held, whole_cells, IsOwn, IsWhole}
 use Rattle.resource_catalog.specs.Steps.{IsShownAs}
@@ -70,7 +71,7 @@ module _ (names : Names) (slots : Slots) (whole : IsWhole names slots) (x : List
       (f (whole_cells names slots) (whole_counted names slots whole.are_slots))
 
   pub looked_there : (p : ℕ × Kind) (op : Op) (r : Result Reply Refuse) → option_map of_named (find text_cmp x names) ≡ Some p
-      → ((s : Slot) → find nat_cmp p.0 slots ≡ Some s → Looks ((decision_of (any_kind s.resource)).look (any_instance s.resource) (any_cells s.resource) op) r)
+      → ((s : Slot) → find nat_cmp p.0 slots ≡ Some s → Looks ((kind_decision (any_kind s.resource)).look (any_instance s.resource) (any_cells s.resource) op) r)
       → Looks (look_at (whole_cells names slots) (at (whole_cells names slots) (Name_at x)) op) r
   looked_there p op r e f =
       let m = mapped_some (find text_cmp x names) p e in
@@ -78,13 +79,13 @@ module _ (names : Names) (slots : Slots) (whole : IsWhole names slots) (x : List
       let s = shown_as names slots x n whole m.1 in
       let here : find nat_cmp p.0 slots ≡ Some s.0 = ap (λ (q : ℕ × Kind). find nat_cmp q.0 slots) (sym m.2) ∙ s.1 in
       subst (λ (o : Option Held). Looks (look_at (whole_cells names slots) o op) r) (sym (at_found n m.1))
-      (subst (λ (q : Kind × ℕ × Cells). Looks ((decision_of q.0).look q.1 q.2 op) r) (λ i. (s.2.kind i, s.2.instance i, sym s.2.own i)) (f s.0 here))
+      (subst (λ (q : Kind × ℕ × Cells). Looks ((kind_decision q.0).look q.1 q.2 op) r) (λ i. (s.2.kind i, s.2.instance i, sym s.2.own i)) (f s.0 here))
 
   pub looked_nowhere : (op : Op) → option_map of_named (find text_cmp x names) ≡ None → look_at (whole_cells names slots) (at (whole_cells names slots) (Name_at x)) op ≡ Rattle.std.proofs.Common.Err Rattle.host_types.specs.declared.entry.Refusal.TheVariants.NoName
   looked_nowhere op e = ap (λ (o : Option Held). look_at (whole_cells names slots) o op) (at_missing (mapped_none (find text_cmp x names) e))
 
 -- every operation but two is decided by the resource
-pub choice_other : (cells : Cells) (x : List ℕ) (m : ℕ) (kind : Kind) (op : Op) (session index : ℕ) → ((k : Kind) → op ≡ Create k → ⊥) → (op ≡ Delete → ⊥) → choice_there cells x m kind op session index ≡ (decision_of kind).resolve m (part m cells) op session index
+pub choice_other : (cells : Cells) (x : List ℕ) (m : ℕ) (kind : Kind) (op : Op) (session index : ℕ) → ((k : Kind) → op ≡ Create k → ⊥) → (op ≡ Delete → ⊥) → choice_there cells x m kind op session index ≡ (kind_decision kind).resolve m (part m cells) op session index
 choice_other cells x m kind (Create k) session index no_create no_delete = absurd (no_create k refl)
 choice_other cells x m kind Delete session index no_create no_delete = absurd (no_delete refl)
 choice_other cells x m kind op session index no_create no_delete = refl

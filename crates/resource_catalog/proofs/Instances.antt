@@ -14,7 +14,8 @@ use Rattle.log_model.proofs.kinds.Gather.{none_some, gather_is}
 use Rattle.log_model.proofs.Lookups.{below_missing, tied_true, tied_same}
 use Rattle.resource_catalog.specs.declared.names.Named.{Named}
 use Rattle.resource_catalog.specs.declared.slots.Slot.{Slot}
-use Rattle.resource_catalog.specs.Kinds.{any_kind, any_instance, any_cells, decision_of}
+use Rattle.log_model.specs.kinds.Reading.{kind_decision}
+use Rattle.resource_catalog.specs.Kinds.{any_kind, any_instance, any_cells}
 use Rattle.resource_catalog.specs.Catalog.{part, instances, tells_named, closes_kind}
 use Rattle.resource_catalog.specs.Parts.{Names, Slots, name_held, whole_cells, IsWhole}
 use Rattle.resource_catalog.specs.Steps.{tells_at, closes_by, closes_in}
@@ -121,7 +122,7 @@ module _ (names : Names) (slots : Slots) (whole : IsWhole names slots) where
     where
       named : (s : Slot) → part m cells ≡ any_cells s.resource → any_instance s.resource ≡ m → (o : Option (List ℕ)) → Rattle.resource_catalog.specs.Steps.tells_by s.resource o effect i ≡ tells_named cells m (option_map (λ x. naming_of x (any_kind s.resource)) o) effect i
       named s own same None = refl
-      named s own same (Some x) = λ j. (decision_of (any_kind s.resource)).tells (same j) (sym own j) x effect i
+      named s own same (Some x) = λ j. (kind_decision (any_kind s.resource)).tells (same j) (sym own j) x effect i
 
       go : (o : Option Slot) → find nat_cmp m slots ≡ o → tells_at o effect i ≡ tells_named cells m (named_at o) effect i
       go None f = refl
@@ -144,7 +145,7 @@ module _ (names : Names) (slots : Slots) (whole : IsWhole names slots) where
 
       named : closes_in owner some ≡ flat_map (λ (n : ℕ × Naming). closes_kind cells n.0 n.1.0 n.1.1 owner) (named_slots some) → (o : Option (List ℕ)) → closes_by e.1.resource o owner ++ closes_in owner some ≡ flat_map (λ (n : ℕ × Naming). closes_kind cells n.0 n.1.0 n.1.1 owner) (named_first e.0 (option_map (λ x. naming_of x (any_kind e.1.resource)) o) (named_slots some))
       named rest None = rest
-      named rest (Some x) = λ j. (decision_of (any_kind e.1.resource)).tells_close (same j) (sym own j) x owner ++ rest j
+      named rest (Some x) = λ j. (kind_decision (any_kind e.1.resource)).tells_close (same j) (sym own j) x owner ++ rest j
 
   all_found : AllFound slots
   all_found = from slots rises (λ k s f. f)

@@ -11,7 +11,6 @@ pub mod Kept
 pub mod Loops
 pub mod Places
 pub mod PlainLaws
-pub mod PlainLogs
 pub mod Released
 pub mod Search
 pub mod Texts

@@ -1,5 +1,4 @@
--- Wherever the cells show a plain state whose resources are of kinds that are built, the catalog does what its next entry does, if
--- each kind does so on its own instance.
+-- Wherever the cells show a plain state, the catalog does what its next entry does. For `catalog_is_plain`.
 use Rattle.std.proofs.Common.{◌≡◌, ℕ, ◌+◌, Bool, true, false, cond, List, [], ◌∷◌, ◌++◌, length, Option, Some, None, refl, sym, ap, subst, ◌∙◌}
 use Rattle.std.specs.Prelude.{nat_le, ◌==◌}
 use Rattle.std.specs.List.{flat_map}
@@ -15,33 +14,30 @@ use Rattle.host_types.specs.declared.entry.Op.{Op}
 use Rattle.host_types.specs.declared.entry.Op.TheVariants.{Create, Delete}
 use Rattle.host_types.specs.declared.entry.Effect.TheVariants.{Create as Creates, Delete as Deletes}
 use Rattle.host_types.specs.declared.entry.Reply.TheVariants.{None as No_reply, Index}
-use Rattle.host_types.specs.declared.entry.Refusal.TheVariants.{Kind as Other_kind, Names}
+use Rattle.host_types.specs.declared.entry.Refusal.TheVariants.{Names}
 use Rattle.log_model.specs.plain.Plain.{Named_resource, State, named, kind_of}
-use Rattle.log_model.specs.hosted.PlainMachine.{choice_of}
+use Rattle.log_model.specs.hosted.PlainMachine.{choice_of, IsPlainMachine}
 use Rattle.log_model.specs.plain.Rows.{Row, Does, Out_of_range, Of_no_kind, row, without_session}
 use Rattle.log_model.specs.plain.Step.{told_close}
 use Rattle.log_model.specs.plain.Commands.{Outcome, outcome, outcome_at, outcome_new, outcome_there, row_outcome, shown_by, plain_look, name_limit, kind_number}
 use Rattle.log_model.specs.kinds.Shows.{Shows}
 use Rattle.log_model.specs.kinds.Reading.{kind_decision}
 use Rattle.log_model.specs.replay.Telling.{effect_instance, tells_kind as told_kind, tells_there, tells_at, name_held, by_instance, EachName, ShowsState}
-use Rattle.log_model.specs.kinds.Deciding.{chosen, shown, call_of, DecidesAsPlain}
+use Rattle.log_model.specs.kinds.Deciding.{chosen, shown, call_of}
 use Rattle.log_model.proofs.kinds.AsPlain.{as_plain}
 use Rattle.log_model.proofs.Lookups.{T_from, from_T}
 use Rattle.log_model.proofs.kinds.Readings.{decides_own}
 use Rattle.log_model.proofs.kinds.ShownCloses.{others_shown}
 use Rattle.log_model.proofs.replay.Tellings.{name_found, names_are, tells_shown, shown_found}
 use Rattle.log_model.proofs.plain.Tracks.{find_passes, same_text}
-use Rattle.resource_catalog.specs.Kinds.{is_built, unbuilt, decision_of}
 use Rattle.resource_catalog.specs.Catalog.{is_place_of, names_in, part, instances, choice_new, choice_there, choice_at, look_at, tells_kind, tells_named, tells_on, closes_kind, catalog_decision}
 use Rattle.resource_catalog.specs.CatalogLaws.{at_part}
-use Rattle.resource_catalog.specs.PlainNames.{EachIsBuilt, IsOfBuilt, DecidesAsModel}
 use Rattle.resource_catalog.proofs.Counted.{names_counted}
 
--- the name stands with its instance and kind, which is built, and its cells show its plain resource
+-- the name stands with its instance and kind, and its cells show its plain resource
 record ShowsName (cells : Cells) (name : List ℕ) (n : Named_resource) : Type 0 where
   pub same : n.name ≡ name
   pub stands : at cells (Name_at name) ≡ Some (held_name n.instance (kind_of n.plain))
-  pub built : is_built (kind_of n.plain) ≡ true
   pub rises : is_sorted place_cmp cells ≡ true
   pub shows : Shows n.instance cells n.plain
 
@@ -63,15 +59,12 @@ row_shown names n Of_no_kind = refl
 
 -- ---- a name that isn't there
 
-new_same : (cells : Cells) (s : State) (name : List ℕ) (op : Op) (i : ℕ) → names_in cells ≡ length s.names → IsOfBuilt op → choice_new cells name op i ≡ choice_of (outcome_new s.names name i op)
-new_same cells s name (Create kind) i counts built =
-    (λ j. cond (nat_le name_limit (counts j)) (Declines Names) (cond (built j) (Decides (Creates name kind) (Index i)) (Declines (Other_kind kind)))) ∙ sym (choice_cond (nat_le name_limit (length s.names)) _ _)
-new_same cells s name op i counts built = refl
+new_same : (cells : Cells) (s : State) (name : List ℕ) (op : Op) (i : ℕ) → names_in cells ≡ length s.names → choice_new cells name op i ≡ choice_of (outcome_new s.names name i op)
+new_same cells s name (Create kind) i counts =
+    (λ j. cond (nat_le name_limit (counts j)) (Declines Names) (Decides (Creates name kind) (Index i))) ∙ sym (choice_cond (nat_le name_limit (length s.names)) _ _)
+new_same cells s name op i counts = refl
 
--- ---- a kind that is built, on its own part of the cells
-
-built_plain : (kind : Kind) → is_built kind ≡ true → DecidesAsPlain kind (decision_of kind)
-built_plain kind built = subst (DecidesAsPlain kind) (ap (λ b. cond b (kind_decision kind) (unbuilt kind)) (sym built)) (as_plain kind)
+-- ---- a kind on its own part of the cells
 
 part_rises : (m : ℕ) (cells : Cells) → is_sorted place_cmp cells ≡ true → is_sorted place_cmp (part m cells) ≡ true
 part_rises m cells rises = from_T _ (is_sorted-where_key place_cmp (is_place_of m) cells (T_from _ rises))
@@ -88,28 +81,27 @@ there_same : (cells : Cells) (s : State) (name : List ℕ) (n : Named_resource) 
 there_same cells s name n (Create kind) session i t = sym (choice_cond (kind_number kind == kind_number (kind_of n.plain)) _ _)
 there_same cells s name n Delete session i t = ap (λ x. Decides (Deletes x n.instance) No_reply) (sym t.same)
 there_same cells s name n op session i t =
-    (built_plain (kind_of n.plain) t.built).resolves n.instance (part n.instance cells) n.plain refl (part_rises n.instance cells t.rises) (part_shows cells n t.shows) n.name op session i ∙ sym (row_choice s.names n (row (call_of n.name n.instance session i) n.plain op))
+    (as_plain (kind_of n.plain)).resolves n.instance (part n.instance cells) n.plain refl (part_rises n.instance cells t.rises) (part_shows cells n t.shows) n.name op session i ∙ sym (row_choice s.names n (row (call_of n.name n.instance session i) n.plain op))
 
-look_same : (cells : Cells) (s : State) (name : List ℕ) (n : Named_resource) (op : Op) (session i : ℕ) → ShowsName cells name n → is_looking op ≡ true → (decision_of (kind_of n.plain)).look n.instance (part n.instance cells) op ≡ shown_by (outcome_there s.names n session i op)
+look_same : (cells : Cells) (s : State) (name : List ℕ) (n : Named_resource) (op : Op) (session i : ℕ) → ShowsName cells name n → is_looking op ≡ true → (kind_decision (kind_of n.plain)).look n.instance (part n.instance cells) op ≡ shown_by (outcome_there s.names n session i op)
 look_same cells s name n (Create kind) session i t looking = absurd (cc)
 look_same cells s name n Delete session i t looking = absurd (cc)
 look_same cells s name n op session i t looking =
-    (built_plain (kind_of n.plain) t.built).looks n.instance (part n.instance cells) n.plain refl (part_rises n.instance cells t.rises) (part_shows cells n t.shows) n.name op session i looking ∙ sym (row_shown s.names n (row (call_of n.name n.instance session i) n.plain op))
+    (as_plain (kind_of n.plain)).looks n.instance (part n.instance cells) n.plain refl (part_rises n.instance cells t.rises) (part_shows cells n t.shows) n.name op session i looking ∙ sym (row_shown s.names n (row (call_of n.name n.instance session i) n.plain op))
 
 look_new : (s : State) (name : List ℕ) (i : ℕ) (op : Op) → is_looking op ≡ true → look_at [] None op ≡ shown_by (outcome_new s.names name i op)
 look_new s name i (Create kind) looking = absurd (cc)
 look_new s name i op looking = refl
 
--- ---- events, of any kinds
+-- ---- events
 
-kind_tells : (kind : Kind) → is_built kind ≡ true → (m : ℕ) (cells : Cells) (name : List ℕ) (effect : Effect) (i : ℕ) → is_sorted place_cmp cells ≡ true → tells_kind cells m name (Some kind) effect i ≡ told_kind cells i m name effect (Some kind)
-kind_tells kind built m cells name effect i rises =
-    (λ j. (cond (built j) (kind_decision kind) (unbuilt kind)).tells m (part m cells) name effect i)
-    ∙ (decides_own kind m cells (part m cells) rises (part_rises m cells rises) (at_own m cells)).tells name effect i
+kind_tells : (kind : Kind) (m : ℕ) (cells : Cells) (name : List ℕ) (effect : Effect) (i : ℕ) → is_sorted place_cmp cells ≡ true → tells_kind cells m name (Some kind) effect i ≡ told_kind cells i m name effect (Some kind)
+kind_tells kind m cells name effect i rises =
+    (decides_own kind m cells (part m cells) rises (part_rises m cells rises) (at_own m cells)).tells name effect i
 
 -- ---- all names
 
-module _ (s : State) (cells : Cells) (shows : ShowsState cells s) (built : EachIsBuilt s.names) where
+module _ (s : State) (cells : Cells) (shows : ShowsState cells s) where
   absent : (name : List ℕ) → named name s ≡ None → at cells (Name_at name) ≡ None
   absent name e = shows.names name ∙ ap name_held e
 
@@ -118,15 +110,14 @@ module _ (s : State) (cells : Cells) (shows : ShowsState cells s) (built : EachI
     same = sym (same_text name n.name (find_passes (λ (m : Named_resource). Rattle.host_types.specs.Cells.is_text name m.name) s.names n e));
     stands = shows.names name ∙ ap name_held e;
     rises = shows.sorted;
-    built = shown_found cells s shows (λ m. is_built (kind_of m.plain) ≡ true) name s.names n built e;
     shows = shown_found cells s shows (λ m. Shows m.instance cells m.plain) name s.names n shows.shown e;
   }
 
-  resolves : (name : List ℕ) (op : Op) (session : ℕ) → IsOfBuilt op → catalog_decision.resolve cells name op session (s.last + 1) ≡ choice_of (outcome s name session op)
-  resolves name op session of_built = go (named name s) refl
+  resolves : (name : List ℕ) (op : Op) (session : ℕ) → catalog_decision.resolve cells name op session (s.last + 1) ≡ choice_of (outcome s name session op)
+  resolves name op session = go (named name s) refl
     where
       go : (o : Option Named_resource) → named name s ≡ o → choice_at cells name (at cells (Name_at name)) op session (s.last + 1) ≡ choice_of (outcome_at s.names o name session (s.last + 1) op)
-      go None e = ap (λ (h : Option Held). choice_at cells name h op session (s.last + 1)) (absent name e) ∙ new_same cells s name op (s.last + 1) (names_counted cells s shows) of_built
+      go None e = ap (λ (h : Option Held). choice_at cells name h op session (s.last + 1)) (absent name e) ∙ new_same cells s name op (s.last + 1) (names_counted cells s shows)
       go (Some n) e = let t = there name n e in ap (λ (h : Option Held). choice_at cells name h op session (s.last + 1)) t.stands ∙ there_same cells s name n op session (s.last + 1) t
 
   looks : (name : List ℕ) (op : Op) → is_looking op ≡ true → catalog_decision.look cells name op ≡ plain_look s name op
@@ -143,8 +134,8 @@ module _ (s : State) (cells : Cells) (shows : ShowsState cells s) (built : EachI
       known : (o : Option (List ℕ × Option Kind)) → find nat_cmp m (by_instance s.names) ≡ o → tells_named cells m o effect i ≡ tells_there cells i m effect o
       known None e = refl
       known (Some y) e =
-          let q = name_found (λ n. is_built (kind_of n.plain) ≡ true) s.names built m y e in
-          subst (λ (y : List ℕ × Option Kind). tells_kind cells m y.0 y.1 effect i ≡ told_kind cells i m y.0 effect y.1) q.3 (kind_tells (kind_of q.0.plain) q.1 m cells q.0.name effect i shows.sorted)
+          let q = name_found (λ n. Shows n.instance cells n.plain) s.names shows.shown m y e in
+          subst (λ (y : List ℕ × Option Kind). tells_kind cells m y.0 y.1 effect i ≡ told_kind cells i m y.0 effect y.1) q.3 (kind_tells (kind_of q.0.plain) m cells q.0.name effect i shows.sorted)
 
   tells_same : (effect : Effect) (i : ℕ) → catalog_decision.tells cells effect i ≡ tells_at cells i effect (effect_instance effect)
   tells_same effect i = on (effect_instance effect)
@@ -153,20 +144,20 @@ module _ (s : State) (cells : Cells) (shows : ShowsState cells s) (built : EachI
       on None = refl
       on (Some m) = found m effect i
 
-  closes : (session : ℕ) (ns : List Named_resource) → EachName (λ n. is_built (kind_of n.plain) ≡ true) ns → EachName (λ n. Shows n.instance cells n.plain) ns → flat_map (λ (n : ℕ × (List ℕ × Option Kind)). closes_kind cells n.0 n.1.0 n.1.1 session) (by_instance ns) ≡ flat_map (λ n. (without_session n.name session n.plain).1) ns
-  closes session [] b h = refl
-  closes session (n ∷ ns) b h = (λ j. one j ++ closes session ns b.1 h.1 j)
+  closes : (session : ℕ) (ns : List Named_resource) → EachName (λ n. Shows n.instance cells n.plain) ns → flat_map (λ (n : ℕ × (List ℕ × Option Kind)). closes_kind cells n.0 n.1.0 n.1.1 session) (by_instance ns) ≡ flat_map (λ n. (without_session n.name session n.plain).1) ns
+  closes session [] h = refl
+  closes session (n ∷ ns) h = (λ j. one j ++ closes session ns h.1 j)
     where
-      one : (decision_of (kind_of n.plain)).tells_close n.instance (part n.instance cells) n.name session ≡ (without_session n.name session n.plain).1
-      one = (built_plain (kind_of n.plain) b.0).tells_close n.instance (part n.instance cells) n.plain refl (part_rises n.instance cells shows.sorted) (part_shows cells n h.0) n.name session
+      one : (kind_decision (kind_of n.plain)).tells_close n.instance (part n.instance cells) n.name session ≡ (without_session n.name session n.plain).1
+      one = (as_plain (kind_of n.plain)).tells_close n.instance (part n.instance cells) n.plain refl (part_rises n.instance cells shows.sorted) (part_shows cells n h.0) n.name session
 
   closes_same : (session : ℕ) → catalog_decision.tells_close cells session ≡ told_close s session
-  closes_same session = ap (flat_map (λ (n : ℕ × (List ℕ × Option Kind)). closes_kind cells n.0 n.1.0 n.1.1 session)) (names_are cells s shows) ∙ closes session s.names built shows.shown
+  closes_same session = ap (flat_map (λ (n : ℕ × (List ℕ × Option Kind)). closes_kind cells n.0 n.1.0 n.1.1 session)) (names_are cells s shows) ∙ closes session s.names shows.shown
 
-pub decides_as_model : DecidesAsModel
-decides_as_model = record {
-  resolves = λ s cells name op session shows built of_built. resolves s cells shows built name op session of_built;
-  tells = λ s cells name op session effect reply names told shows built e. tells_same s cells shows built effect (s.last + 1) ∙ tells_shown cells s shows name op session effect reply names told e;
-  looks = λ s cells name op looking shows built. looks s cells shows built name op looking;
-  tells_close = λ s cells session shows built. closes_same s cells shows built session;
+pub is_plain : IsPlainMachine catalog_decision
+is_plain = record {
+  resolves = λ s cells name op session shows. resolves s cells shows name op session;
+  tells = λ s cells name op session effect reply names told shows e. tells_same s cells shows effect (s.last + 1) ∙ tells_shown cells s shows name op session effect reply names told e;
+  looks = λ s cells name op looking shows. looks s cells shows name op looking;
+  tells_close = λ s cells session shows. closes_same s cells shows session;
 }

@@ -18,7 +18,7 @@ use Rattle.host_types.specs.declared.entry.Refusal.TheVariants.{NoName, Kind as 
 use Rattle.log_model.specs.plain.Commands.{name_limit, kind_number}
 use Rattle.log_model.specs.kinds.Reading.{gather}
 use Rattle.log_model.specs.replay.Telling.{named_pick, effect_instance}
-use Rattle.resource_catalog.specs.Kinds.{is_built, decision_of}
+use Rattle.log_model.specs.kinds.Reading.{kind_decision}
 
 -- a place of this instance
 abbrev pub is_place_of : ℕ → Place → Bool
@@ -39,14 +39,14 @@ names_in cells = count_by is_name cells
 
 -- a new name, with an instance that is named by the entry's index
 abbrev pub choice_new : Cells → List ℕ → Op → ℕ → Choice
-choice_new cells name (Create kind) index = cond (nat_le name_limit (names_in cells)) (Declines Names) (cond (is_built kind) (Decides (Creates name kind) (Index index)) (Declines (Other_kind kind)))
+choice_new cells name (Create kind) index = cond (nat_le name_limit (names_in cells)) (Declines Names) (Decides (Creates name kind) (Index index))
 choice_new cells name op index = Declines NoName
 
 -- a name that stands with this instance and kind
 abbrev pub choice_there : Cells → List ℕ → ℕ → Kind → Op → ℕ → ℕ → Choice
 choice_there cells name m kind (Create other) session index = cond (kind_number other == kind_number kind) (Decides Nothing (Index m)) (Declines (Other_kind kind))
 choice_there cells name m kind Delete session index = Decides (Deletes name m) No_reply
-choice_there cells name m kind op session index = (decision_of kind).resolve m (part m cells) op session index
+choice_there cells name m kind op session index = (kind_decision kind).resolve m (part m cells) op session index
 
 abbrev pub choice_kind : Cells → List ℕ → ℕ → Option Kind → Op → ℕ → ℕ → Choice
 choice_kind cells name m None op session index = Declines NoName
@@ -58,7 +58,7 @@ choice_at cells name (Some held) op session index = choice_kind cells name held.
 
 abbrev pub look_kind : Cells → ℕ → Option Kind → Op → Result Reply Refusal
 look_kind cells m None op = Err NoName
-look_kind cells m (Some kind) op = (decision_of kind).look m (part m cells) op
+look_kind cells m (Some kind) op = (kind_decision kind).look m (part m cells) op
 
 abbrev pub look_at : Cells → Option Held → Op → Result Reply Refusal
 look_at cells None op = Err NoName
@@ -72,7 +72,7 @@ instances cells = gather nat_cmp named_pick cells
 
 abbrev pub tells_kind : Cells → ℕ → List ℕ → Option Kind → Effect → ℕ → List (ℕ × Event)
 tells_kind cells m name None effect index = []
-tells_kind cells m name (Some kind) effect index = (decision_of kind).tells m (part m cells) name effect index
+tells_kind cells m name (Some kind) effect index = (kind_decision kind).tells m (part m cells) name effect index
 
 abbrev pub tells_named : Cells → ℕ → Option (List ℕ × Option Kind) → Effect → ℕ → List (ℕ × Event)
 tells_named cells m None effect index = []
@@ -84,7 +84,7 @@ tells_on cells (Some m) effect index = tells_named cells m (find nat_cmp m (inst
 
 abbrev pub closes_kind : Cells → ℕ → List ℕ → Option Kind → ℕ → List (ℕ × Event)
 closes_kind cells m name None session = []
-closes_kind cells m name (Some kind) session = (decision_of kind).tells_close m (part m cells) name session
+closes_kind cells m name (Some kind) session = (kind_decision kind).tells_close m (part m cells) name session
 
 abbrev pub catalog_decision : MachineDecision
 catalog_decision = record {

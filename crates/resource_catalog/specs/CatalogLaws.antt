@@ -19,7 +19,8 @@ use Rattle.host_types.specs.declared.entry.Refusal.TheVariants.{Names as Too_man
 use Rattle.log_model.specs.plain.Commands.{name_limit, kind_number}
 use Rattle.log_model.specs.kinds.LawfulRows.{EffectSuits, suits_agree, found_owner, found_place}
 use Rattle.log_model.proofs.Lookups.{any_from_found}
-use Rattle.resource_catalog.specs.Kinds.{is_built, decision_of, decision_lawful, decision_owner}
+use Rattle.log_model.specs.kinds.Reading.{kind_decision}
+use Rattle.log_model.proofs.kinds.KindLaws.{kind_lawful, kind_owner}
 use Rattle.resource_catalog.specs.Catalog.{is_place_of, part, names_in, choice_new, choice_there, choice_kind, choice_at, catalog_decision}
 
 unsigned : (n : ℕ) → IsIndex n → IsUnsigned n
@@ -119,19 +120,18 @@ delete_lawful cells name held session index key here found = record {
 }
 
 new_lawful : (cells : Cells) (name : List ℕ) (op : Op) (session index : ℕ) (effect : Effect) (reply : Reply) → IsKey name → IsIndex index → at cells (Name_at name) ≡ None → choice_new cells name op index ≡ Decides effect reply → IsLawfulAt cells session index effect reply
-new_lawful cells name (Create kind) session index effect reply key here absent decides = go (nat_le name_limit (names_in cells)) (is_built kind) decides
+new_lawful cells name (Create kind) session index effect reply key here absent decides = go (nat_le name_limit (names_in cells)) decides
   where
-    go : (full built : Bool) → cond full (Declines Too_many) (cond built (Decides (Creates name kind) (Index index)) (Declines (Other_kind kind))) ≡ Decides effect reply → IsLawfulAt cells session index effect reply
-    go true built e = absurd (cc)
-    go false false e = absurd (cc)
-    go false true e = moved cells session index (Creates name kind) effect (Index index) reply e (create_lawful cells name kind session index key here absent)
+    go : (full : Bool) → cond full (Declines Too_many) (Decides (Creates name kind) (Index index)) ≡ Decides effect reply → IsLawfulAt cells session index effect reply
+    go true e = absurd (cc)
+    go false e = moved cells session index (Creates name kind) effect (Index index) reply e (create_lawful cells name kind session index key here absent)
 new_lawful cells name op session index effect reply key here absent decides = absurd (cc)
 
 -- the decision of the resource, on its cells
 rows_lawful : (cells : Cells) (name : List ℕ) (held : Held) (kind : Kind) (op : Op) (session index : ℕ) (effect : Effect) (reply : Reply) → IsIndex held.index → IsAsked cells op session index → at cells (Name_at name) ≡ Some held → held.kind ≡ Some kind
-    → (decision_of kind).resolve held.index (part held.index cells) op session index ≡ Decides effect reply → IsLawfulAt cells session index effect reply
+    → (kind_decision kind).resolve held.index (part held.index cells) op session index ≡ Decides effect reply → IsLawfulAt cells session index effect reply
 rows_lawful cells name held kind op session index effect reply here asked found is decides =
-    let lawful = decision_lawful kind held.index (part held.index cells) op session index effect reply here (asked_part held.index cells op session index asked) decides in
+    let lawful = kind_lawful kind held.index (part held.index cells) op session index effect reply here (asked_part held.index cells op session index asked) decides in
     record {
       effect_in_range = lawful.effect_in_range;
       reply_in_range = lawful.reply_in_range;
@@ -187,12 +187,11 @@ catalog_suits : (cells : Cells) (name : List ℕ) (op : Op) (session index : ℕ
 catalog_suits cells name op session index effect reply decides = go (at cells (Name_at name)) decides
   where
     fresh : (op : Op) → choice_new cells name op index ≡ Decides effect reply → MachineSuits index session effect
-    fresh (Create kind) e = on (nat_le name_limit (names_in cells)) (is_built kind) e
+    fresh (Create kind) e = on (nat_le name_limit (names_in cells)) e
       where
-        on : (full built : Bool) → cond full (Declines Too_many) (cond built (Decides (Creates name kind) (Index index)) (Declines (Other_kind kind))) ≡ Decides effect reply → MachineSuits index session effect
-        on true built e = absurd (cc)
-        on false false e = absurd (cc)
-        on false true e = moved_suits index session (Creates name kind) effect (Index index) reply e tt
+        on : (full : Bool) → cond full (Declines Too_many) (Decides (Creates name kind) (Index index)) ≡ Decides effect reply → MachineSuits index session effect
+        on true e = absurd (cc)
+        on false e = moved_suits index session (Creates name kind) effect (Index index) reply e tt
     fresh op e = absurd (cc)
 
     there : (m : ℕ) (kind : Kind) (op : Op) → choice_there cells name m kind op session index ≡ Decides effect reply → MachineSuits index session effect
@@ -202,7 +201,7 @@ catalog_suits cells name op session index effect reply decides = go (at cells (N
         on true e = moved_suits index session Nothing effect (Index m) reply e tt
         on false e = absurd (cc)
     there m kind Delete e = moved_suits index session (Deletes name m) effect No_reply reply e tt
-    there m kind op e = of_resource index session effect (decision_owner kind m (part m cells) op session index effect reply e)
+    there m kind op e = of_resource index session effect (kind_owner kind m (part m cells) op session index effect reply e)
 
     known : (m : ℕ) (k : Option Kind) → choice_kind cells name m k op session index ≡ Decides effect reply → MachineSuits index session effect
     known m None e = absurd (cc)

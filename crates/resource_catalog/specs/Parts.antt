@@ -8,7 +8,7 @@ use Rattle.host_types.specs.declared.entry.Effect.{Effect}
 use Rattle.host_types.specs.declared.entry.Effect.TheVariants.{Create, Delete, Put, Drop, Wipe, WipeKey}
 use Rattle.resource_catalog.specs.declared.names.Named.{Named}
 use Rattle.resource_catalog.specs.declared.slots.Slot.{Slot}
-use Rattle.resource_catalog.specs.Kinds.{any_kind, any_instance, any_cells, AnyIsReady, is_built}
+use Rattle.resource_catalog.specs.Kinds.{any_kind, any_instance, any_cells, AnyIsReady}
 use Rattle.resource_catalog.specs.Catalog.{is_place_of}
 
 abbrev pub Names : Type 0
@@ -70,7 +70,7 @@ abbrev pub ResourceIsReady : Slots → ℕ → Effect → ℕ → Type 0
 ResourceIsReady slots m effect index = (s : Slot) → find nat_cmp m slots ≡ Some s → AnyIsReady s.resource effect index
 
 abbrev pub CatalogIsReady : Parts → Effect → ℕ → Type 0
-CatalogIsReady p (Create name kind) index = (is_built kind ≡ true) × (p.copies ≡ Some (name, name)) × (1 ≤ p.names_room) × (1 ≤ p.slots_room)
+CatalogIsReady p (Create name kind) index = (p.copies ≡ Some (name, name)) × (1 ≤ p.names_room) × (1 ≤ p.slots_room)
 CatalogIsReady p (Delete name m) index = ResourceIsReady p.slots m (Delete name m) index
 CatalogIsReady p (Put m cell content owner) index = ResourceIsReady p.slots m (Put m cell content owner) index
 CatalogIsReady p (Drop m cell) index = ResourceIsReady p.slots m (Drop m cell) index

@@ -12,7 +12,8 @@ use Rattle.machine.specs.Release.{Releases}
 use Rattle.resource_catalog.specs.declared.names.Named.{Named}
 use Rattle.resource_catalog.specs.declared.slots.Slot.{Slot}
 use Rattle.resource_catalog.specs.declared.kinds.AnyResource.{AnyResource}
-use Rattle.resource_catalog.specs.Kinds.{any_kind, any_instance, any_cells, decision_of}
+use Rattle.log_model.specs.kinds.Reading.{kind_decision}
+use Rattle.resource_catalog.specs.Kinds.{any_kind, any_instance, any_cells}
 use Rattle.resource_catalog.specs.Catalog.{part}
 use Rattle.resource_catalog.specs.Parts.{Names, Slots, whole_cells, IsWhole}
 
@@ -84,7 +85,7 @@ is_named_at (Some s) = is_some s.name
 
 abbrev pub tells_by : AnyResource → Option (List ℕ) → Effect → ℕ → List (ℕ × Event)
 tells_by r None effect index = []
-tells_by r (Some name) effect index = (decision_of (any_kind r)).tells (any_instance r) (any_cells r) name effect index
+tells_by r (Some name) effect index = (kind_decision (any_kind r)).tells (any_instance r) (any_cells r) name effect index
 
 abbrev pub tells_at : Option Slot → Effect → ℕ → List (ℕ × Event)
 tells_at None effect index = []
@@ -92,7 +93,7 @@ tells_at (Some s) effect index = tells_by s.resource s.name effect index
 
 abbrev pub closes_by : AnyResource → Option (List ℕ) → ℕ → List (ℕ × Event)
 closes_by r None owner = []
-closes_by r (Some name) owner = (decision_of (any_kind r)).tells_close (any_instance r) (any_cells r) name owner
+closes_by r (Some name) owner = (kind_decision (any_kind r)).tells_close (any_instance r) (any_cells r) name owner
 
 abbrev pub closes_in : ℕ → Slots → List (ℕ × Event)
 closes_in owner [] = []

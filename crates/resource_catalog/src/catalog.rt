@@ -12,12 +12,12 @@ ghost use Rattle.host_types.specs.Cells.{Cells, text_cmp, places_of, is_in_insta
 ghost use Rattle.host_types.specs.declared.entry.Effect.TheVariants.{Create, Delete};
 ghost use Rattle.commit_lending.specs.Lent.{tokens, one_of};
 ghost use Rattle.machine.specs.Release.{AreOut, Releases, Retires, CreatesAnew};
-ghost use Rattle.resource_catalog.specs.Kinds.{is_built, any_cells};
+ghost use Rattle.resource_catalog.specs.Kinds.{any_cells};
 ghost use Rattle.resource_catalog.specs.Parts.{whole_cells, name_cells, slot_cells, IsWhole, ResourceIsReady, CatalogIsReady};
 ghost use Rattle.resource_catalog.specs.declared.slots.Slot.{Slot as ASlot};
 ghost use Rattle.resource_catalog.specs.Steps.{IsApplied, IsOn, is_unfit, without_name, unnamed_by, tidied, HasAdded, IsShownAs};
 
-use crate::kinds::{AnyResource, is_built};
+use crate::kinds::AnyResource;
 use crate::names::{Named, add_name, end_names, find_name, list_names, take_name};
 use crate::slots::{
     Slot, add_slot, apply_in, end_slots, forget_in_all, is_named, list_slots, look_in, prepare_in,
@@ -134,7 +134,6 @@ fn add(
     requires slots { IsTrue (is_sorted nat_cmp slots.old.items) }
     requires names_room { vec_len names.old < vec_capacity names.old }
     requires slots_room { vec_len slots.old < vec_capacity slots.old }
-    requires built { is_built kind ≡ true }
     requires absent { find text_cmp copies.0 names.old.items ≡ None }
     requires free { find nat_cmp commit slots.old.items ≡ None }
     ensures { HasAdded copies.0 copies.1 kind commit names.old.items slots.old.items names.new.items slots.new.items }
@@ -160,7 +159,6 @@ fn create(
     lender: &mut Lender,
 )
     requires whole { IsWhole names.old.items slots.old.items }
-    requires built { is_built kind ≡ true }
     requires copies { copies.old ≡ Some (name.now, name.now) }
     requires names_room { vec_len names.old < vec_capacity names.old }
     requires slots_room { vec_len slots.old < vec_capacity slots.old }
@@ -178,7 +176,7 @@ fn create(
     add(names, slots, copies.take().unwrap(), kind, commit);
 }
 
-/// Named resources: a `Machine` over all kinds that are built.
+/// Named resources: a `Machine` over all kinds.
 ///
 /// Contracts see its names and instances, the room for more of them, and the copies of a name that the next `Create` takes.
 /// Finding a name or an instance takes time logarithmic in their number.
@@ -227,9 +225,6 @@ fn resolve_new(
         Op::Create { kind } => {
             if names.len() >= NAME_LIMIT {
                 return Err(Refuse::Names);
-            }
-            if !is_built(*kind) {
-                return Err(Refuse::Kind { is: *kind });
             }
             Ok(Decision {
                 effect: Effect::Create {
@@ -322,14 +317,10 @@ fn prepare_new(
 ) -> Result<(), NoMemory>
     ensures names { names.new.items ≡ names.old.items }
     ensures slots { slots.new.items ≡ slots.old.items }
-    ensures built { OnOk result (is_built kind ≡ true) }
     ensures copies { OnOk result (copies.new ≡ Some (name.now, name.now)) }
     ensures names_room { OnOk result (1 ≤ vec_capacity names.new - vec_len names.new) }
     ensures slots_room { OnOk result (1 ≤ vec_capacity slots.new - vec_len slots.new) }
 {
-    if !is_built(kind) {
-        return Err(NoMemory);
-    }
     names.reserve(1)?;
     slots.reserve(1)?;
     *copies = Some((name.copy()?, name.copy()?));

@@ -7,7 +7,8 @@ ghost use Rattle.host_types.specs.Cells.{places_of, is_create};
 ghost use Rattle.commit_lending.specs.Lent.{tokens, one_of};
 ghost use Rattle.machine.specs.Listing.{listed};
 ghost use Rattle.machine.specs.Release.{AreOut, Releases, Retires};
-ghost use Rattle.resource_catalog.specs.Kinds.{any_kind, any_instance, any_cells, decision_of};
+ghost use Rattle.log_model.specs.kinds.Reading.{kind_decision};
+ghost use Rattle.resource_catalog.specs.Kinds.{any_kind, any_instance, any_cells};
 ghost use Rattle.resource_catalog.specs.Parts.{slot_cells, ResourceIsReady};
 ghost use Rattle.resource_catalog.specs.declared.slots.Slot.{Slot as ASlot};
 ghost use Rattle.resource_catalog.specs.Steps.{tells_by, without_slot, without_its_name, AppliedIn, KeptIn, Forgot, is_named_at, tells_at, closes_by, closes_in};
@@ -117,7 +118,7 @@ pub(crate) fn resolve_in(
 ) -> Result<Decision, Refuse>
     requires rises { IsTrue (is_sorted nat_cmp slots.now) }
     requires there { is_some (find nat_cmp instance slots.now) ≡ true }
-    ensures { (s : ASlot) → find nat_cmp instance slots.now ≡ Some s → Resolves ((decision_of (any_kind s.resource)).resolve (any_instance s.resource) (any_cells s.resource) op.now session index) result }
+    ensures { (s : ASlot) → find nat_cmp instance slots.now ≡ Some s → Resolves ((kind_decision (any_kind s.resource)).resolve (any_instance s.resource) (any_cells s.resource) op.now session index) result }
 {
     match place_of(slots, &instance) {
         Ok(at) => slots[at].1.resource.resolve(alloc, op, session, index),
@@ -135,7 +136,7 @@ pub(crate) fn look_in(
     requires rises { IsTrue (is_sorted nat_cmp slots.now) }
     requires there { is_some (find nat_cmp instance slots.now) ≡ true }
     requires looking { is_looking op.now ≡ true }
-    ensures { (s : ASlot) → find nat_cmp instance slots.now ≡ Some s → Looks ((decision_of (any_kind s.resource)).look (any_instance s.resource) (any_cells s.resource) op.now) result }
+    ensures { (s : ASlot) → find nat_cmp instance slots.now ≡ Some s → Looks ((kind_decision (any_kind s.resource)).look (any_instance s.resource) (any_cells s.resource) op.now) result }
 {
     match place_of(slots, &instance) {
         Ok(at) => slots[at].1.resource.look(alloc, op),

@@ -15,13 +15,13 @@ use Rattle.log_model.specs.plain.Plain.{State, nothing_yet}
 use Rattle.log_model.specs.plain.Admission.{Item, Offered, Expired, admits_offer, declined_by, refused_outcome, admits}
 use Rattle.log_model.specs.plain.Commands.{Outcome, Decided, Declined, outcome}
 use Rattle.log_model.specs.plain.Step.{step, fold_from, folded}
-use Rattle.log_model.specs.plain.Stored.{entry_with, decided_body, asked_body, entry_of, stored_from, stored, is_admission, is_admitted, is_log_from, is_log}
+use Rattle.log_model.specs.plain.Stored.{entry_with, decided_body, asked_body, entry_of, stored_from, stored, is_admission, is_admitted, is_log_from}
 use Rattle.log_model.specs.serving.Batches.{told, told_ask, told_outcome}
 use Rattle.log_model.specs.plain.Quiet.{kept_of, greatest_below}
-use Rattle.log_model.specs.hosted.Hosted.{Hosted, hosted_nothing, machine_cells, refused_choice, hosted_declined, hosted_admits, hosted_expires, is_hosted_admitted, choice_body, hosted_entry, hosted_told, sessions_after, hosted_after, hosted_step, hosted_from, hosted_folded, hosted_stored_from, is_hosted_log_from, is_hosted_log}
+use Rattle.log_model.specs.hosted.Hosted.{Hosted, hosted_nothing, machine_cells, refused_choice, hosted_declined, hosted_admits, hosted_expires, is_hosted_admitted, choice_body, hosted_entry, hosted_told, sessions_after, hosted_after, hosted_step, hosted_from, hosted_folded, hosted_stored_from, is_hosted_log_from}
 use Rattle.log_model.specs.replay.Telling.{ShowsState}
 use Rattle.log_model.specs.kinds.Shows.{Shows}
-use Rattle.log_model.specs.hosted.PlainMachine.{choice_of, IsPlainMachine, IsAsPlain}
+use Rattle.log_model.specs.hosted.PlainMachine.{choice_of, IsPlainMachine, HostsArePlain}
 use Rattle.log_model.proofs.Lookups.{T_from, from_T}
 use Rattle.log_model.proofs.cleaning.Growth.{last_step}
 use Rattle.log_model.proofs.hosted.Parts.{at_machine, sorted_machine}
@@ -125,7 +125,7 @@ module _ (d : MachineDecision) (plain : IsPlainMachine d) where
   shown_in : (st : Hosted) (s : State) (c : Cells) → st ≡ seen s c → ShowsState (machine_cells c) s → ShowsState (machine_cells st.cells) s
   shown_in st s c same h = subst (λ (z : Hosted). ShowsState (machine_cells z.cells) s) (sym same) h
 
-  pub plain_machine : (items : List Item) → (is_hosted_log d items ≡ is_log items) × (is_log items ≡ true → IsAsPlain d items)
+  pub plain_machine : HostsArePlain d
   plain_machine items =
       let r = plain_from nothing_yet [] items whole_nothing in (
         r.0,
@@ -138,6 +138,7 @@ module _ (d : MachineDecision) (plain : IsPlainMachine d) where
               same_fold = same;
               same_entries = k.entries_same;
               same_admission = λ o. ap (λ st. hosted_admits d st o) same ∙ admits_same s c k.shown o;
+              same_entry = λ item. ap (λ st. hosted_entry d st item) same ∙ entry_same s c k.shown item;
               same_expiry = λ time. ap (λ st. hosted_expires st time) same;
               shows = shown_in (hosted_folded d items) s c same k.shown;
               same_look = λ name op looking. plain.looks (folded items) (machine_cells (hosted_folded d items).cells) name op looking (shown_in (hosted_folded d items) s c same k.shown);

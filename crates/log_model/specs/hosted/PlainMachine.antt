@@ -11,9 +11,9 @@ use Rattle.log_model.specs.plain.Plain.{Named_resource, State}
 use Rattle.log_model.specs.plain.Admission.{Item, admits, expires}
 use Rattle.log_model.specs.plain.Commands.{Outcome, Decided, Declined, outcome, plain_look}
 use Rattle.log_model.specs.plain.Step.{told_close, folded}
-use Rattle.log_model.specs.plain.Stored.{stored, is_log}
+use Rattle.log_model.specs.plain.Stored.{entry_of, stored, is_log}
 use Rattle.log_model.specs.plain.Quiet.{quiet}
-use Rattle.log_model.specs.hosted.Hosted.{machine_cells, hosted_folded, hosted_stored, hosted_admits, hosted_expires, is_hosted_log, hosted_quiet}
+use Rattle.log_model.specs.hosted.Hosted.{machine_cells, hosted_folded, hosted_stored, hosted_admits, hosted_entry, hosted_expires, is_hosted_log, hosted_quiet}
 use Rattle.log_model.specs.replay.ReplayLaws.{as_folded}
 use Rattle.log_model.specs.replay.Telling.{ShowsState}
 
@@ -34,14 +34,15 @@ pub record IsAsPlain (d : MachineDecision) (items : List Item) : Type 0 where
   pub same_fold : hosted_folded d items ≡ as_folded items
   pub same_entries : hosted_stored d items ≡ stored items
   pub same_admission : (o : Offer) → hosted_admits d (hosted_folded d items) o ≡ admits (folded items) o
+  pub same_entry : (item : Item) → hosted_entry d (hosted_folded d items) item ≡ entry_of (folded items) item
   pub same_expiry : (time : ℕ) → hosted_expires (hosted_folded d items) time ≡ expires (folded items) time
   pub shows : ShowsState (machine_cells (hosted_folded d items).cells) (folded items)
   pub same_look : (name : List ℕ) (op : Op) → IsTrue (is_looking op) → d.look (machine_cells (hosted_folded d items).cells) name op ≡ plain_look (folded items) name op
   pub same_quiet : hosted_quiet (hosted_folded d items) ≡ quiet items
 
 -- it takes what the plain state takes, and is as the plain state afterwards
+abbrev pub HostsArePlain : MachineDecision → Type 0
+HostsArePlain d = (items : List Item) → (is_hosted_log d items ≡ is_log items) × (IsTrue (is_log items) → IsAsPlain d items)
+
 abbrev pub PlainMachinesArePlain : Type 0
-PlainMachinesArePlain =
-    (d : MachineDecision) (items : List Item)
-    → IsPlainMachine d
-    → (is_hosted_log d items ≡ is_log items) × (IsTrue (is_log items) → IsAsPlain d items)
+PlainMachinesArePlain = (d : MachineDecision) → IsPlainMachine d → HostsArePlain d

@@ -1,5 +1,6 @@
 use Rattle.std.proofs.Common.{Result, length, sym, subst}
 use Rattle.std.specs.Prelude.{IfOk, IfErr}
+use Rattle.resource_catalog.specs.Catalog.{catalog_decision}
 use Rattle.copycat_tool.specs.Calls.{HasFewer, IsExpiring, change_of}
 use Rattle.copycat_tool.specs.declared.calls.Expiring.{Expiring}
 use Rattle.copycat_tool.specs.declared.ending.Ending.{Ending}
@@ -19,7 +20,7 @@ returns-clause-answered g c = λ t files run at.
     let keeps : Keeps g.D.Disk.view c.expire-answer.new.self = record { images = c.keeps.ensures.images t; empty = c.keeps.ensures.empty t; last = c.keeps.ensures.last; layout = c.keeps.ensures.layout t; file = c.keeps.ensures.file t } in
     let P : Result Expiring Ending → Type 0 = λ r. IfOk r (IsExpiring g.D.Disk.view files c.args.host.now c.expire-answer.new.self run c.args.time) in
     subst P (sym c.told_expiry.ensures)
-    (expiry_answered c.logs_of_catalogs_are_plain.ensures g.D.Disk.view files c.args.host.now c.expire-answer.new.self run at keeps (g.met.D.Disk.sound c.expire-answer.new.self.disk t) e.name e.size c.args.time
+    (expiry_answered (c.plain_machines_are_plain.ensures catalog_decision c.catalog_is_plain.ensures) g.D.Disk.view files c.args.host.now c.expire-answer.new.self run at keeps (g.met.D.Disk.sound c.expire-answer.new.self.disk t) e.name e.size c.args.time
     c.expire-answer.result e.answer e.nobody e.after (e.stands t run.log at.stands) (e.layout t) (e.any_moment t run.log at.stands))
 
 pub returns-clause-cut : goal.returns-clause-cut
@@ -28,5 +29,5 @@ returns-clause-cut g c = λ t files run at.
     let keeps : Keeps g.D.Disk.view c.expire-answer.new.self = record { images = c.keeps.ensures.images t; empty = c.keeps.ensures.empty t; last = c.keeps.ensures.last; layout = c.keeps.ensures.layout t; file = c.keeps.ensures.file t } in
     let P : Result Expiring Ending → Type 0 = λ r. IfErr r (IsCut files (g.D.Disk.view c.args.host.now.disk) (g.D.Disk.view c.expire-answer.new.self.disk) run (change_of (expiry run c.args.time) c.args.time)) in
     subst P (sym c.told_expiry.ensures)
-    (expiry_cut c.logs_of_catalogs_are_plain.ensures g.D.Disk.view files c.args.host.now c.expire-answer.new.self run at keeps (g.met.D.Disk.sound c.expire-answer.new.self.disk t) e.name e.size c.args.time
+    (expiry_cut (c.plain_machines_are_plain.ensures catalog_decision c.catalog_is_plain.ensures) g.D.Disk.view files c.args.host.now c.expire-answer.new.self run at keeps (g.met.D.Disk.sound c.expire-answer.new.self.disk t) e.name e.size c.args.time
     c.ranges.time.fits c.logs_are_sound.ensures (e.empty t run.log at.stands) (e.any_moment t run.log at.stands) c.expire-answer.result)

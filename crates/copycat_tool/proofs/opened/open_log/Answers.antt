@@ -2,6 +2,7 @@ use Rattle.std.proofs.Common.{◌≡◌, ◌∙◌, take, ap, sym, subst}
 use Rattle.log_model.specs.hosted.Hosted.{Hosted, machine_cells}
 use Rattle.log_model.specs.plain.Step.{folded}
 use Rattle.log_model.specs.replay.Telling.{ShowsState}
+use Rattle.resource_catalog.specs.Catalog.{catalog_decision}
 use Rattle.copycat_tool.proofs.CallLemmas.{as_model, plain_files}
 use Rattle.copycat_tool.proofs.LogLemmas.{logged_front}
 use Rattle.copycat_tool.proofs.ProgramLemmas.{to_hosted}
@@ -9,7 +10,7 @@ use Rattle.copycat_tool.proofs.opened.open_log.Goals as goal
 
 pub returns-in-Ok : goal.returns-in-Ok
 returns-in-Ok g c = λ t log least order.
-    let law = c.logs_of_catalogs_are_plain.ensures in
+    let law = c.plain_machines_are_plain.ensures catalog_decision c.catalog_is_plain.ensures in
     let name = c.args.name.now in
     let h = c.in-Ok.host in
     let o = c.in-Ok.ensures.stands t log least (to_hosted law name log least order.logged (g.D.Disk.view c.args.disk) order) in

@@ -6,6 +6,7 @@ use Rattle.segment_set.specs.declared.opening.OpenError.{OpenError}
 use Rattle.segment_set.specs.declared.opening.OpenError.TheVariants as errors
 use Rattle.segment_set.specs.Opening.{id_from}
 use Rattle.host_recovery.specs.Standing.{layout_in}
+use Rattle.resource_catalog.specs.Catalog.{catalog_decision}
 use Rattle.copycat_tool.specs.declared.ending.Ending.{Ending}
 use Rattle.copycat_tool.specs.declared.ending.Ending.TheVariants.{DiskFault, Damaged}
 use Rattle.copycat_tool.specs.Closing.{EndsRun, HasCauses}
@@ -22,7 +23,7 @@ use Rattle.copycat_tool.proofs.program.run_log.Goals as goal
 
 pub returns-in-Ok-clause-ran : goal.returns-in-Ok-clause-ran
 returns-in-Ok-clause-ran g c = λ t log least order bytes left.
-    let law = c.logs_of_catalogs_are_plain.ensures in
+    let law = c.plain_machines_are_plain.ensures catalog_decision c.catalog_is_plain.ensures in
     let name = c.args.name.now in
     let files : Files = record { name = name; size = c.args.size } in
     let h = c.in-Ok.host in
@@ -54,7 +55,7 @@ returns-in-Ok-clause-damaged g c = λ seven t. absurd (c.run_script-status.ensur
 
 pub returns-in-Err-clause-ran : goal.returns-in-Err-clause-ran
 returns-in-Err-clause-ran g c = λ t log least order bytes left.
-    let law = c.logs_of_catalogs_are_plain.ensures in
+    let law = c.plain_machines_are_plain.ensures catalog_decision c.catalog_is_plain.ensures in
     let name = c.args.name.now in
     let v = g.D.Disk.view c.args.disk in
     let w = g.D.Disk.view c.in-Err.disk in

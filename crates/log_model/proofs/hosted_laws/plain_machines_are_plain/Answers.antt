@@ -2,4 +2,4 @@ use Rattle.log_model.proofs.hosted.PlainMachines.{plain_machine}
 use Rattle.log_model.proofs.hosted_laws.plain_machines_are_plain.Goals as goal
 
 pub returns : goal.returns
-returns c = λ d items plain. plain_machine d plain items
+returns c = plain_machine

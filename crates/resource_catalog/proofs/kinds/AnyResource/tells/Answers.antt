@@ -1,32 +1,33 @@
 use Rattle.std.specs.Prelude.{◌≡◌, IfOk}
 use Rattle.std.proofs.Common.{sym, subst}
 use Rattle.resource_catalog.specs.declared.kinds.AnyResource.{AnyResource}
-use Rattle.resource_catalog.specs.Kinds.{any_kind, any_instance, any_cells, decision_of}
+use Rattle.log_model.specs.kinds.Reading.{kind_decision}
+use Rattle.resource_catalog.specs.Kinds.{any_kind, any_instance, any_cells}
 use Rattle.resource_catalog.proofs.kinds.AnyResource.tells.Goals as goal
 
 pub returns-in-Value : goal.returns-in-Value
-returns-in-Value c = subst (λ (r : AnyResource). IfOk c.tells.result (λ told. told ≡ (decision_of (any_kind r)).tells (any_instance r) (any_cells r) c.args.name.now c.args.effect.now c.args.index)) (sym c.in-Value.is) c.tells.ensures
+returns-in-Value c = subst (λ (r : AnyResource). IfOk c.tells.result (λ told. told ≡ (kind_decision (any_kind r)).tells (any_instance r) (any_cells r) c.args.name.now c.args.effect.now c.args.index)) (sym c.in-Value.is) c.tells.ensures
 
 pub returns-in-Counter : goal.returns-in-Counter
-returns-in-Counter c = subst (λ (r : AnyResource). IfOk c.tells-in-Counter.result (λ told. told ≡ (decision_of (any_kind r)).tells (any_instance r) (any_cells r) c.args.name.now c.args.effect.now c.args.index)) (sym c.in-Counter.is) c.tells-in-Counter.ensures
+returns-in-Counter c = subst (λ (r : AnyResource). IfOk c.tells-in-Counter.result (λ told. told ≡ (kind_decision (any_kind r)).tells (any_instance r) (any_cells r) c.args.name.now c.args.effect.now c.args.index)) (sym c.in-Counter.is) c.tells-in-Counter.ensures
 
 pub returns-in-Map : goal.returns-in-Map
-returns-in-Map c = subst (λ (r : AnyResource). IfOk c.tells-in-Map.result (λ told. told ≡ (decision_of (any_kind r)).tells (any_instance r) (any_cells r) c.args.name.now c.args.effect.now c.args.index)) (sym c.in-Map.is) c.tells-in-Map.ensures
+returns-in-Map c = subst (λ (r : AnyResource). IfOk c.tells-in-Map.result (λ told. told ≡ (kind_decision (any_kind r)).tells (any_instance r) (any_cells r) c.args.name.now c.args.effect.now c.args.index)) (sym c.in-Map.is) c.tells-in-Map.ensures
 
 pub returns-in-Multimap : goal.returns-in-Multimap
-returns-in-Multimap c = subst (λ (r : AnyResource). IfOk c.tells-in-Multimap.result (λ told. told ≡ (decision_of (any_kind r)).tells (any_instance r) (any_cells r) c.args.name.now c.args.effect.now c.args.index)) (sym c.in-Multimap.is) c.tells-in-Multimap.ensures
+returns-in-Multimap c = subst (λ (r : AnyResource). IfOk c.tells-in-Multimap.result (λ told. told ≡ (kind_decision (any_kind r)).tells (any_instance r) (any_cells r) c.args.name.now c.args.effect.now c.args.index)) (sym c.in-Multimap.is) c.tells-in-Multimap.ensures
 
 pub returns-in-Set : goal.returns-in-Set
-returns-in-Set c = subst (λ (r : AnyResource). IfOk c.tells-in-Set.result (λ told. told ≡ (decision_of (any_kind r)).tells (any_instance r) (any_cells r) c.args.name.now c.args.effect.now c.args.index)) (sym c.in-Set.is) c.tells-in-Set.ensures
+returns-in-Set c = subst (λ (r : AnyResource). IfOk c.tells-in-Set.result (λ told. told ≡ (kind_decision (any_kind r)).tells (any_instance r) (any_cells r) c.args.name.now c.args.effect.now c.args.index)) (sym c.in-Set.is) c.tells-in-Set.ensures
 
 pub returns-in-Queue : goal.returns-in-Queue
-returns-in-Queue c = subst (λ (r : AnyResource). IfOk c.tells-in-Queue.result (λ told. told ≡ (decision_of (any_kind r)).tells (any_instance r) (any_cells r) c.args.name.now c.args.effect.now c.args.index)) (sym c.in-Queue.is) c.tells-in-Queue.ensures
+returns-in-Queue c = subst (λ (r : AnyResource). IfOk c.tells-in-Queue.result (λ told. told ≡ (kind_decision (any_kind r)).tells (any_instance r) (any_cells r) c.args.name.now c.args.effect.now c.args.index)) (sym c.in-Queue.is) c.tells-in-Queue.ensures
 
 pub returns-in-Lock : goal.returns-in-Lock
-returns-in-Lock c = subst (λ (r : AnyResource). IfOk c.tells-in-Lock.result (λ told. told ≡ (decision_of (any_kind r)).tells (any_instance r) (any_cells r) c.args.name.now c.args.effect.now c.args.index)) (sym c.in-Lock.is) c.tells-in-Lock.ensures
+returns-in-Lock c = subst (λ (r : AnyResource). IfOk c.tells-in-Lock.result (λ told. told ≡ (kind_decision (any_kind r)).tells (any_instance r) (any_cells r) c.args.name.now c.args.effect.now c.args.index)) (sym c.in-Lock.is) c.tells-in-Lock.ensures
 
 pub returns-in-Group : goal.returns-in-Group
-returns-in-Group c = subst (λ (r : AnyResource). IfOk c.tells-in-Group.result (λ told. told ≡ (decision_of (any_kind r)).tells (any_instance r) (any_cells r) c.args.name.now c.args.effect.now c.args.index)) (sym c.in-Group.is) c.tells-in-Group.ensures
+returns-in-Group c = subst (λ (r : AnyResource). IfOk c.tells-in-Group.result (λ told. told ≡ (kind_decision (any_kind r)).tells (any_instance r) (any_cells r) c.args.name.now c.args.effect.now c.args.index)) (sym c.in-Group.is) c.tells-in-Group.ensures
 
 pub returns-in-Topic : goal.returns-in-Topic
-returns-in-Topic c = subst (λ (r : AnyResource). IfOk c.tells-in-Topic.result (λ told. told ≡ (decision_of (any_kind r)).tells (any_instance r) (any_cells r) c.args.name.now c.args.effect.now c.args.index)) (sym c.in-Topic.is) c.tells-in-Topic.ensures
+returns-in-Topic c = subst (λ (r : AnyResource). IfOk c.tells-in-Topic.result (λ told. told ≡ (kind_decision (any_kind r)).tells (any_instance r) (any_cells r) c.args.name.now c.args.effect.now c.args.index)) (sym c.in-Topic.is) c.tells-in-Topic.ensures
