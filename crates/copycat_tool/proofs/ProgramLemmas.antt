@@ -59,20 +59,20 @@ based (x ∷ []) log short are p has = ap (λ (r : Part). r.id.base) (sym (only_
 based (x ∷ y ∷ parts) log short are p has = absurd (omega (arith, short))
 
 -- a folder that stands for a log has none
-stands_no_fault : (v : View) (name : List ℕ) (log : List Entry) (id : FileId) → Stands (folder name v.reading) log → IsFault (folder name v.reading) id → ⊥
-stands_no_fault v name log id s fault = no_fault v name s.parts id s.choice (based s.parts log s.choice.one s.are) fault
+stands_no_fault : (v : View) (name : List ℕ) (log : List Entry) (id : FileId) (at : ℕ) → Stands (folder name v.reading) log → IsFault (folder name v.reading) id at → ⊥
+stands_no_fault v name log id at s fault = no_fault v name s.parts id at s.choice (based s.parts log s.choice.one s.are) fault
 
 -- nor where every crash leaves a log
-pub in_order_no_fault : (v : View) (name : List ℕ) (log : List Item) (least : ℕ) (id : FileId) → IsSound v → IsInOrder name v log least → IsFault (folder name v.reading) id → ⊥
-in_order_no_fault v name log least id sound order fault =
+pub in_order_no_fault : (v : View) (name : List ℕ) (log : List Item) (least : ℕ) (id : FileId) (at : ℕ) → IsSound v → IsInOrder name v log least → IsFault (folder name v.reading) id at → ⊥
+in_order_no_fault v name log least id at sound order fault =
     let p = order.each v.reading (λ q. own v sound q) in
-    stands_no_fault v name _ id p.is fault
+    stands_no_fault v name _ id at p.is fault
 
 -- AN OPENING THAT FAILED
 
 -- why the log isn't open, as its error tells
 pub why_unopened : (name : List ℕ) (v : View) (disk_failed : Type 0) (error : OpenError) → (error ≡ errors.Disk → disk_failed)
-    → ((base generation at : ℕ) → error ≡ errors.Damaged base generation at → (at ≡ 0) × IsFault (folder name v.reading) (id_from base generation)) → IsUnopened name v disk_failed (ending_of error)
+    → ((base generation at : ℕ) → error ≡ errors.Damaged base generation at → IsFault (folder name v.reading) (id_from base generation) at) → IsUnopened name v disk_failed (ending_of error)
 why_unopened name v disk_failed errors.Disk failed damaged = failed refl
 why_unopened name v disk_failed (errors.Damaged base generation at) failed damaged = damaged base generation at refl
 why_unopened name v disk_failed errors.NoMemory failed damaged = tt
@@ -91,7 +91,7 @@ stays_unopened name script left v disk_failed ending why written written' sink s
 }
 
 pub unopened_of : (name : List ℕ) (v : View) (disk_failed : Type 0) (error : OpenError) (ending : Ending) → ending ≡ ending_of error → (error ≡ errors.Disk → disk_failed)
-    → ((base generation at : ℕ) → error ≡ errors.Damaged base generation at → (at ≡ 0) × IsFault (folder name v.reading) (id_from base generation)) → IsUnopened name v disk_failed ending
+    → ((base generation at : ℕ) → error ≡ errors.Damaged base generation at → IsFault (folder name v.reading) (id_from base generation) at) → IsUnopened name v disk_failed ending
 unopened_of name v disk_failed error ending is failed damaged = subst (IsUnopened name v disk_failed) (sym is) (why_unopened name v disk_failed error failed damaged)
 
 -- which error an ending tells

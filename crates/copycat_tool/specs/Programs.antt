@@ -33,11 +33,11 @@ pub record OpensAndRuns (files : Files) (log : List Item) (least : ℕ) (script 
   pub before : (image : Image) → new.left_since old.moment image → HasPrefix files.name log least image ⊎ new.left_since opened image
   pub ran : RanSo files run script left opened new text status read_failed disk_failed
 
--- why a log couldn't be opened: its disk failed, no memory was left, or a file isn't right, which is named
+-- why a log couldn't be opened: its disk failed, no memory was left, or a file isn't right, which is named with the place
 abbrev pub IsUnopened : List ℕ → View → Type 0 → Ending → Type 0
 IsUnopened name v disk_failed DiskFault = disk_failed
 IsUnopened name v disk_failed NoMemory = Unit {0}
-IsUnopened name v disk_failed (Damaged base generation at) = (at ≡ 0) × IsFault (folder name v.reading) (id_from base generation)
+IsUnopened name v disk_failed (Damaged base generation at) = IsFault (folder name v.reading) (id_from base generation) at
 IsUnopened name v disk_failed _ = ⊥
 
 -- The log couldn't be opened, and that is all that is told. Nothing was read of the script.

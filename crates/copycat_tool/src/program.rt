@@ -36,9 +36,9 @@ fn run_log<I: Source, D: Disk, O: Sink>(
     ensures ran { IsTrue D.tells → (log : List Item) (least : ℕ) → IsInOrder name.now (D.view disk) log least → (bytes : List ℕ) → I.left script.old ≡ Some bytes
         → RunsInOrder (record { name = name.now; size = size }) log least bytes (I.left script.new) (D.view disk) (D.view result.1) (O.written out.old) (O.written out.new) result.0.0
         (Rose (I.faults script.old) (I.faults script.new)) (D.faults disk < D.faults result.1) }
-    ensures faulty { IsTrue D.tells → (id : FileId) → IsFault (folder name.now (D.view disk).reading) id
+    ensures faulty { IsTrue D.tells → (id : FileId) (at : ℕ) → IsFault (folder name.now (D.view disk).reading) id at
         → StaysDamaged name.now (I.left script.old) (I.left script.new) (D.view disk) (D.view result.1) (O.written out.old) (O.written out.new) result.0.0 (D.faults disk < D.faults result.1) }
-    ensures damaged { result.0.0 ≡ 7 → IsTrue D.tells → (id : FileId) × IsFault (folder name.now (D.view disk).reading) id }
+    ensures damaged { result.0.0 ≡ 7 → IsTrue D.tells → (id : FileId) × (at : ℕ) × IsFault (folder name.now (D.view disk).reading) id at }
     ensures others { IsTrue D.tells → KeepsNames (D.view disk) (D.view result.1) name.now }
     ensures causes { HasCauses (Rose (I.faults script.old) (I.faults script.new)) (Rose (O.faults out.old) (O.faults out.new)) (D.faults disk < D.faults result.1) result.0.0 }
     ensures front { (bytes : List ℕ) → I.left script.old ≡ Some bytes → IsFrontOf bytes (I.left script.new) }
@@ -78,10 +78,10 @@ pub fn run<I: Source, D: Disk, O: Sink>(
 
     // A folder that isn't right isn't opened: why is told in one line, and nothing else. It is left as it is, whatever a crash leaves. Only
     // of such a folder a file is told to be damaged.
-    ensures faulty { IsTrue D.tells → (name : List ℕ) (size : ℕ) (id : FileId) → asked_of (map (λ w. w.items) words.now) ≡ Some (asks name size) → IsFault (folder name (D.view disk).reading) id
+    ensures faulty { IsTrue D.tells → (name : List ℕ) (size : ℕ) (id : FileId) (at : ℕ) → asked_of (map (λ w. w.items) words.now) ≡ Some (asks name size) → IsFault (folder name (D.view disk).reading) id at
         → StaysDamaged name (I.left script.old) (I.left script.new) (D.view disk) (D.view result.1) (O.written out.old) (O.written out.new) result.0.0 (D.faults disk < D.faults result.1) }
     ensures damaged { result.0.0 ≡ 7 → IsTrue D.tells → (name : List ℕ) (size : ℕ) → asked_of (map (λ w. w.items) words.now) ≡ Some (asks name size)
-        → (id : FileId) × IsFault (folder name (D.view disk).reading) id }
+        → (id : FileId) × (at : ℕ) × IsFault (folder name (D.view disk).reading) id at }
 
     // Files of other names stay as they are.
     ensures others { IsTrue D.tells → (name : List ℕ) (size : ℕ) → asked_of (map (λ w. w.items) words.now) ≡ Some (asks name size) → KeepsNames (D.view disk) (D.view result.1) name }

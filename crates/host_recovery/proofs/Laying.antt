@@ -128,8 +128,8 @@ lie_alike name image a b x y =
     λ i. record { parts = parts i; greatest = greatest i }
 
 -- where files fit a choice of them, none has a fault
-pub none_at_fault : (v w : View) (name : List ℕ) (tail : Option Tail) (greatest : ℕ) (id : FileId) → Fits w name tail greatest → IsChoice (folder name v.reading) (parts_in w.reading name tail) → IsFault (folder name v.reading) id → ⊥
-none_at_fault v w name tail greatest id fits choice fault = no_fault v name (parts_in w.reading name tail) id choice (based tail fits) fault
+pub none_at_fault : (v w : View) (name : List ℕ) (tail : Option Tail) (greatest : ℕ) (id : FileId) (at : ℕ) → Fits w name tail greatest → IsChoice (folder name v.reading) (parts_in w.reading name tail) → IsFault (folder name v.reading) id at → ⊥
+none_at_fault v w name tail greatest id at fits choice fault = no_fault v name (parts_in w.reading name tail) id at choice (based tail fits) fault
   where
     based : (tail : Option Tail) → Fits w name tail greatest → (p : Part) → Contains (parts_in w.reading name tail) p → p.id.base ≡ 1
     based None fits p has = absurd (nothing p has)

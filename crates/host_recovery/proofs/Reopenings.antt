@@ -80,5 +80,5 @@ lie_as_before v w old new fits named choice great =
     lie_alike old.name v.reading (layout_in w new) (alone (layout_in v old)) (lies_so v w old.name new named choice great) (is_laid_out v old.name old.tail old.greatest fits).lies
 
 -- a folder that fits what is remembered of it has no fault
-pub fits_no_fault : (v : View) (name : List ℕ) (tail : Option Tail) (greatest : ℕ) (id : FileId) → Fits v name tail greatest → IsFault (folder name v.reading) id → ⊥
-fits_no_fault v name tail greatest id fits fault = none_at_fault v v name tail greatest id fits (choice_is v name tail greatest fits) fault
+pub fits_no_fault : (v : View) (name : List ℕ) (tail : Option Tail) (greatest : ℕ) (id : FileId) (at : ℕ) → Fits v name tail greatest → IsFault (folder name v.reading) id at → ⊥
+fits_no_fault v name tail greatest id at fits fault = none_at_fault v v name tail greatest id at fits (choice_is v name tail greatest fits) fault

@@ -58,8 +58,8 @@ fn load<D: Disk, M: Machine>(
     ensures held { IfOk result (λ parts. IsTrue D.tells → IsEmptyWhereNone (D.view disk.old) name.now → IsHeld (D.view disk.new) name.now parts.tail) }
     ensures greatest { IfOk result (λ parts. IsTrue D.tells → IsGreatestListed (D.view disk.old) name.now parts.greatest) }
     ensures damaged { (base generation at : ℕ) → IsErrOf result (OpenError.Damaged base generation at)
-        → (at ≡ 0) × (IsTrue D.tells → IsFault (folder name.now (D.view disk.old).reading) (id_from base generation) × ((D.view disk.new).reading ≡ (D.view disk.old).reading)) }
-    ensures unharmed { IsTrue D.tells → (id : FileId) → IsFault (folder name.now (D.view disk.old).reading) id
+        → IsTrue D.tells → IsFault (folder name.now (D.view disk.old).reading) (id_from base generation) at × ((D.view disk.new).reading ≡ (D.view disk.old).reading) }
+    ensures unharmed { IsTrue D.tells → (id : FileId) (at : ℕ) → IsFault (folder name.now (D.view disk.old).reading) id at
         → ((D.view disk.new).reading ≡ (D.view disk.old).reading) × LeavesAt (D.view disk.old) (D.view disk.new) (MayHold (D.view disk.old)) }
     ensures any_moment { IsTrue D.tells → (log : List Entry) (least : ℕ) → FilesAreInOrder (D.view disk.old) name.now log least
         → LeavesOnly (D.view disk.old) (D.view disk.new) (StandsForPrefix name.now log least) }
@@ -98,15 +98,15 @@ impl<D: Disk, M: Machine> Host<D, M> {
         ensures stands { IsTrue D.tells → (items : List Item) (least : ℕ) → IsInOrder M.decides (D.view disk) name.now items least → IfOk result (OpensAt M.decides D.view M.cells (D.view disk) items least) }
         ensures any_moment { IsTrue D.tells → (items : List Item) (least : ℕ) → IsInOrder M.decides (D.view disk) name.now items least
             → LeavesOnly (D.view disk) (D.view (disk_behind result)) (HasPrefix M.decides name.now items least) }
-        ensures faultless { OnOk result (IsTrue D.tells → (id : FileId) → IsFault (folder name.now (D.view disk).reading) id → ⊥) }
+        ensures faultless { OnOk result (IsTrue D.tells → (id : FileId) (at : ℕ) → IsFault (folder name.now (D.view disk).reading) id at → ⊥) }
         ensures lies { IfOk result (λ h. IsTrue D.tells → Lies name.now (D.view disk).reading (layout_in (D.view h.disk) h.parts)) }
 
-        // A damaged file is named by its cause, and the files are as they were.
+        // A damaged file is named by its cause and with its place, and the files are as they were.
         ensures damaged { (base generation at : ℕ) → IsErrOf (went result) (OpenError.Damaged base generation at)
-            → (at ≡ 0) × (IsTrue D.tells → IsFault (folder name.now (D.view disk).reading) (id_from base generation) × ((D.view (disk_behind result)).reading ≡ (D.view disk).reading)) }
+            → IsTrue D.tells → IsFault (folder name.now (D.view disk).reading) (id_from base generation) at × ((D.view (disk_behind result)).reading ≡ (D.view disk).reading) }
 
         // Whatever it answers of files that aren't right, they are as they were.
-        ensures unharmed { IsTrue D.tells → (id : FileId) → IsFault (folder name.now (D.view disk).reading) id
+        ensures unharmed { IsTrue D.tells → (id : FileId) (at : ℕ) → IsFault (folder name.now (D.view disk).reading) id at
             → ((D.view (disk_behind result)).reading ≡ (D.view disk).reading) × LeavesAt (D.view disk) (D.view (disk_behind result)) (MayHold (D.view disk)) }
 
         ensures empty { IsTrue D.tells → IsEmptyWhereNone (D.view disk) name.now → IsEmptyWhereNone (D.view (disk_behind result)) name.now }
@@ -156,12 +156,12 @@ impl<D: Disk, M: Machine> Host<D, M> {
         ensures any_moment { IsTrue D.tells → (items : List Item) → StandsAt M.decides D.view M.cells self.old items
             → LeavesOnly (D.view self.old.disk) (D.view self.new.disk) (λ image. StandsFor M.decides self.old.parts.name image items) }
 
-        // A damaged file is named by its cause, and the files are as they were. Where it ran there is none.
-        ensures faultless { OnOk result (IsTrue D.tells → (id : FileId) → IsFault (folder self.old.parts.name (D.view self.old.disk).reading) id → ⊥) }
+        // A damaged file is named by its cause and with its place, and the files are as they were. Where it ran there is none.
+        ensures faultless { OnOk result (IsTrue D.tells → (id : FileId) (at : ℕ) → IsFault (folder self.old.parts.name (D.view self.old.disk).reading) id at → ⊥) }
         ensures damaged { (base generation at : ℕ) → IsErrOf result (OpenError.Damaged base generation at)
-            → (at ≡ 0) × (IsTrue D.tells → IsFault (folder self.old.parts.name (D.view self.old.disk).reading) (id_from base generation) × ((D.view self.new.disk).reading ≡ (D.view self.old.disk).reading)) }
+            → IsTrue D.tells → IsFault (folder self.old.parts.name (D.view self.old.disk).reading) (id_from base generation) at × ((D.view self.new.disk).reading ≡ (D.view self.old.disk).reading) }
         ensures undamaged { (base generation at : ℕ) → IsErrOf result (OpenError.Damaged base generation at) → IsTrue D.tells → self.old.stopped ≡ false → ⊥ }
-        ensures unharmed { IsTrue D.tells → (id : FileId) → IsFault (folder self.old.parts.name (D.view self.old.disk).reading) id
+        ensures unharmed { IsTrue D.tells → (id : FileId) (at : ℕ) → IsFault (folder self.old.parts.name (D.view self.old.disk).reading) id at
             → ((D.view self.new.disk).reading ≡ (D.view self.old.disk).reading) × LeavesAt (D.view self.old.disk) (D.view self.new.disk) (MayHold (D.view self.old.disk)) }
 
         ensures empty { IsTrue D.tells → IsEmptyWhereNone (D.view self.old.disk) self.old.parts.name → IsEmptyWhereNone (D.view self.new.disk) self.old.parts.name }

@@ -1,14 +1,18 @@
 -- How the entries of a frame's body are read, one after the other.
-use Rattle.std.proofs.Common.{◌≡◌, ℕ, zero, suc, ◌+◌, ◌-◌, ◌<◌, ◌≤◌, Bool, true, false, nat_eq, nat_le, List, [], ◌∷◌, ◌++◌, length, take, drop, Option, Some, None, refl, sym, ap, subst, ◌∙◌, arith, rules, if◌then◌else◌, append_assoc, length-append, length-take, length-drop}
+use Rattle.std.proofs.Common.{◌≡◌, ℕ, zero, suc, ◌+◌, ◌-◌, ◌<◌, ◌≤◌, Bool, true, false, not, ◌&&◌, nat_eq, nat_le, List, [], ◌∷◌, ◌++◌, length, take, drop, Some, None, refl, sym, ap, subst, ◌∙◌, arith, if◌then◌else◌, append_assoc, length-append, length-take, length-drop}
 use Rattle.std.proofs.lemmas.List.{append-nil, drop-drop, drop_all, take_all}
-use Rattle.std.proofs.lemmas.Bool.{and_parts, eqb-true, leb-true}
+use Rattle.std.proofs.lemmas.Bool.{and_parts, eqb-true, le-leb, leb-true}
 use Rattle.host_types.specs.Limits.{last_limit}
 use Rattle.host_types.specs.declared.entry.Entry.{Entry}
 use Rattle.entry_codec.specs.Spelled.{IsSpelledBy, number_spelled, body_spelled, spelled}
 use Rattle.std.specs.Int.{w64, to_be_bytes}
 use Rattle.entry_codec.specs.Reading.{Spelling, Spells, Spoils, spelling}
-use Rattle.segment_files.specs.Parse.{Numbered, Body, Holds, Breaks, Follows, with_entry, first_of, body, frame_room, is_next}
-use Rattle.segment_files.specs.Contents.{IsBroken, ReadsBody, ReadsNext}
+use Rattle.segment_files.specs.Numbers.{Eight, number_at}
+use Rattle.segment_files.specs.Parse.{Numbered, Body, Holds, Breaks, Follows, with_entry, is_misplaced, spelled_first, first_of, body, frame_room, is_next}
+use Rattle.segment_files.specs.Contents.{ReadsBody, ReadsNext}
+use Rattle.segment_files.specs.declared.windows.EntryRead.{EntryRead}
+use Rattle.segment_files.specs.declared.windows.EntryRead.TheVariants.{Whole as Is_entry, Damaged as Is_no_entry}
+use Rattle.segment_files.proofs.Indexes.{index_read}
 
 -- entries ahead of a body, and how many bytes they take
 abbrev pub in_front : Numbered → ℕ → Body → Body
@@ -27,12 +31,8 @@ in_front_more : (es fs : Numbered) (a b : ℕ) (d : Body) → in_front es a (in_
 in_front_more es fs a b (Holds entries) = ap (λ (x : Numbered). Holds x) (sym (append_assoc es fs entries))
 in_front_more es fs a b (Breaks place) = ap (λ (k : ℕ). Breaks k) (omega arith)
 
-broken_behind : (es : Numbered) (a : ℕ) (d : Body) → IsBroken d → IsBroken (in_front es a d)
-broken_behind es a (Holds entries) broken = broken
-broken_behind es a (Breaks place) broken = tt
-
 module _ (f : Follows) where
-  body_one : (room before x : ℕ) (l : List ℕ) → body f (suc room) before (x ∷ l) ≡ first_of f before (spelling (x ∷ l)) (λ index size. body f room index (drop size (x ∷ l)))
+  body_one : (room before x : ℕ) (l : List ℕ) → body f (suc room) before (x ∷ l) ≡ first_of f before (x ∷ l) (λ index size. body f room index (drop size (x ∷ l)))
   unfolding body
   body_one room before x l = refl
 
@@ -46,7 +46,7 @@ module _ (f : Follows) where
   body_end (suc room) before = refl
 
   -- where there are bytes left, and room
-  pub body_more : (room before : ℕ) (l : List ℕ) → 0 < length l → body f (suc room) before l ≡ first_of f before (spelling l) (λ index size. body f room index (drop size l))
+  pub body_more : (room before : ℕ) (l : List ℕ) → 0 < length l → body f (suc room) before l ≡ first_of f before l (λ index size. body f room index (drop size l))
   body_more room before [] some = absurd (omega arith)
   body_more room before (x ∷ l) some = body_one room before x l
 
@@ -58,22 +58,19 @@ module _ (f : Follows) where
   -- a body that isn't empty has an entry
   pub some_entry : (room before : ℕ) (l : List ℕ) (es : Numbered) → 0 < length l → body f room before l ≡ Holds es → 1 ≤ length es
   some_entry zero before l es some is = absurd (cc (is, body_no_room before l some))
-  some_entry (suc room) before l es some is = by (spelling l) (sym (body_more room before l some) ∙ is)
+  some_entry (suc room) before l es some is = placed (is_misplaced f before l) (sym (body_more room before l some) ∙ is)
     where
-      K : ℕ → ℕ → Body
-      K index size = body f room index (drop size l)
-
       last : (index : ℕ) (entry : Entry) (size : ℕ) (d : Body) → with_entry index entry size d ≡ Holds es → 1 ≤ length es
       last index entry size (Holds more) is = let same : (index, entry) ∷ more ≡ es = cc in omega (arith, ap length same)
       last index entry size (Breaks place) is = absurd (cc)
 
-      next : (index : ℕ) (entry : Entry) (size : ℕ) (t : Bool) → (if t then with_entry index entry size (body f room index (drop size l)) else Breaks 0) ≡ Holds es → 1 ≤ length es
-      next index entry size true is = last index entry size (body f room index (drop size l)) is
-      next index entry size false is = absurd (cc)
-
-      by : (s : Spelling) → first_of f before s (λ index size. body f room index (drop size l)) ≡ Holds es → 1 ≤ length es
+      by : (s : Spelling) → spelled_first s (λ index size. body f room index (drop size l)) ≡ Holds es → 1 ≤ length es
       by (Spoils place) is = absurd (cc)
-      by (Spells index entry size) is = next index entry size (f before index entry) is
+      by (Spells index entry size) is = last index entry size (body f room index (drop size l)) is
+
+      placed : (t : Bool) → (if t then Breaks 0 else spelled_first (spelling l) (λ index size. body f room index (drop size l))) ≡ Holds es → 1 ≤ length es
+      placed true is = absurd (cc)
+      placed false is = by (spelling l) is
 
 -- THE BODY, as far as it was read
 pub record BodyPassed (bytes : List ℕ) (before count at : ℕ) (old new : Numbered) : Type 0 where
@@ -101,18 +98,18 @@ module _ (bytes : List ℕ) (before count at : ℕ) (old new : Numbered) (passed
   left : at < length bytes → 0 < length rest
   left lt = omega (arith, length-drop at bytes)
 
-  breaks_with : IsBroken (body is_next (frame_room - count) (before + count) rest) → IsBroken (body is_next frame_room before bytes)
-  breaks_with broken = subst (λ (d : Body). IsBroken d) (sym passed.walk) (broken_behind passed.more at (body is_next (frame_room - count) (before + count) rest) broken)
+  breaks_with : (place : ℕ) → body is_next (frame_room - count) (before + count) rest ≡ Breaks place → body is_next frame_room before bytes ≡ Breaks (at + place)
+  breaks_with place broken = passed.walk ∙ ap (in_front passed.more at) broken
 
   -- it goes on, and no entry may follow
-  pub breaks_full : at < length bytes → count ≡ frame_room → ReadsBody bytes before old new false
+  pub breaks_full : at < length bytes → count ≡ frame_room → ReadsBody bytes before old new (Some at)
   breaks_full lt full =
       let none : frame_room - count ≡ 0 = omega (arith, full) in
+      let broken : body is_next frame_room before bytes ≡ Breaks (at + 0) = breaks_with 0 (ap (λ (k : ℕ). body is_next k (before + count) rest) none ∙ body_no_room is_next (before + count) rest (left lt)) in
       record {
         more = passed.more;
         items = passed.items;
-        holds = λ is. absurd (search rules);
-        breaks = λ is. breaks_with (subst (λ (d : Body). IsBroken d) (sym (ap (λ (k : ℕ). body is_next k (before + count) rest) none ∙ body_no_room is_next (before + count) rest (left lt))) tt);
+        is = (broken ∙ ap (λ (k : ℕ). Breaks k) (omega arith), passed.within);
       }
 
   -- room for one more
@@ -120,24 +117,26 @@ module _ (bytes : List ℕ) (before count at : ℕ) (old new : Numbered) (passed
   one_less lt = omega arith
 
   at_entry : at < length bytes → count < frame_room → body is_next (frame_room - count) (before + count) rest
-      ≡ first_of is_next (before + count) (spelling rest) (λ index size. body is_next (frame_room - (count + 1)) index (drop size rest))
+      ≡ first_of is_next (before + count) rest (λ index size. body is_next (frame_room - (count + 1)) index (drop size rest))
   at_entry lt room = ap (λ (k : ℕ). body is_next k (before + count) rest) (one_less room) ∙ body_more is_next (frame_room - (count + 1)) (before + count) rest (left lt)
 
   room_left : (count ≡ frame_room → ⊥) → count < frame_room
   room_left not_full = let few = passed.few in omega arith
 
   -- no entry follows
-  pub breaks_next : at < length bytes → (count ≡ frame_room → ⊥) → (next : Numbered) → ReadsNext rest (before + count) new next None → ReadsBody bytes before old next false
-  breaks_next lt not_full next none = record {
+  pub breaks_next : at < length bytes → (count ≡ frame_room → ⊥) → (next : Numbered) (place : ℕ) → ReadsNext rest (before + count) new next (Is_no_entry place) → ReadsBody bytes before old next (Some (at + place))
+  breaks_next lt not_full next place none = record {
     more = passed.more;
     items = none.1 ∙ passed.items;
-    holds = λ is. absurd (search rules);
-    breaks = λ is. breaks_with (subst (λ (d : Body). IsBroken d) (sym (at_entry lt (room_left not_full))) (none.0 (λ index size. body is_next (frame_room - (count + 1)) index (drop size rest))));
+    is = (
+      breaks_with place (at_entry lt (room_left not_full) ∙ none.0 (λ index size. body is_next (frame_room - (count + 1)) index (drop size rest))),
+      (let low = none.2 in omega (arith, low, length-drop at bytes, lt)),
+    );
   }
 
   -- with the entry that follows
-  pub one_more : at < length bytes → (count ≡ frame_room → ⊥) → (next : Numbered) (size : ℕ) → ReadsNext rest (before + count) new next (Some size) → BodyPassed bytes before (count + 1) (at + size) old next
-  one_more lt not_full next size (entry, spells, fit, items, some, short) =
+  pub one_more : at < length bytes → (count ≡ frame_room → ⊥) → (next : Numbered) (size : ℕ) → ReadsNext rest (before + count) new next (Is_entry size) → BodyPassed bytes before (count + 1) (at + size) old next
+  one_more lt not_full next size (entry, reads, low, items, some, short) =
       let es : Numbered = (before + count + 1, entry) ∷ [] in
       let D = body is_next (frame_room - (count + 1)) (before + count + 1) (drop size rest) in
       record {
@@ -149,52 +148,60 @@ module _ (bytes : List ℕ) (before count at : ℕ) (old new : Numbered) (passed
         walk = passed.walk
             ∙ ap (in_front passed.more at)
             (at_entry lt (room_left not_full)
-            ∙ ap (λ (s : Spelling). first_of is_next (before + count) s (λ index size. body is_next (frame_room - (count + 1)) index (drop size rest))) spells
-            ∙ ap (λ (t : Bool). if t then with_entry (before + count + 1) entry size D else Breaks 0) fit
+            ∙ reads (λ index size. body is_next (frame_room - (count + 1)) index (drop size rest))
             ∙ in_front_one (before + count + 1) entry size D)
             ∙ in_front_more passed.more es at size D
             ∙ ap (λ (k : ℕ). in_front (passed.more ++ es) (at + size) (body is_next (frame_room - (count + 1)) k (drop size rest))) (omega arith)
             ∙ ap (λ (l : List ℕ). in_front (passed.more ++ es) (at + size) (body is_next (frame_room - (count + 1)) (before + (count + 1)) l)) (drop-drop size at bytes);
       }
 
-  -- the entry that follows keeps the log within its limit
-  pub next_low : (next : Numbered) (size : ℕ) → ReadsNext rest (before + count) new next (Some size) → before + count + 1 ≤ last_limit
-  next_low next size (entry, spells, fit, items, some, short) =
-      let parts = and_parts (nat_eq (before + count + 1) (before + count + 1)) (nat_le (before + count + 1) last_limit) fit in
-      leb-true (before + count + 1) last_limit parts.1
-
   -- to its end
-  pub holds_all : length bytes ≤ at → ReadsBody bytes before old new true
+  pub holds_all : length bytes ≤ at → ReadsBody bytes before old new None
   holds_all le = record {
     more = passed.more;
     items = passed.items;
-    holds = λ is. passed.walk
+    is = passed.walk
         ∙ ap (λ (l : List ℕ). in_front passed.more at (body is_next (frame_room - count) (before + count) l)) (drop_all at bytes le)
         ∙ ap (in_front passed.more at) (body_end is_next (frame_room - count) (before + count))
         ∙ ap (λ (l : Numbered). Holds l) (append-nil passed.more);
-    breaks = λ is. absurd (cc);
   }
 
 -- what an entry is that was read
-module _ (bytes : List ℕ) (before : ℕ) (old next : Numbered) where
-  pub spoils_next : (place : ℕ) → spelling bytes ≡ Spoils place → next ≡ old → ReadsNext bytes before old next None
-  spoils_next place spoils same = ((λ rest. subst (λ (s : Spelling). IsBroken (first_of is_next before s rest)) (sym spoils) tt), same)
+module _ (bytes : List ℕ) (before : ℕ) where
+  -- one that may not stand there, whatever else it is
+  pub misplaced_next : (old : Numbered) → is_misplaced is_next before bytes ≡ true → ReadsNext bytes before old old (Is_no_entry 0)
+  misplaced_next old is = (
+    (λ rest. ap (λ (t : Bool). if t then Breaks 0 else spelled_first (spelling bytes) rest) is),
+    refl,
+    omega arith,
+  )
 
-  module _ (index : ℕ) (entry : Entry) (size : ℕ) (spells : spelling bytes ≡ Spells index entry size) where
-    pub unfit_next : is_next before index entry ≡ false → next ≡ old → ReadsNext bytes before old next None
-    unfit_next unfit same = (
-      (λ rest. subst (λ (s : Spelling). IsBroken (first_of is_next before s rest)) (sym spells)
-          (subst (λ (t : Bool). IsBroken (if t then with_entry index entry size (rest index size) else Breaks 0)) (sym unfit) tt)),
-      same,
-    )
+  module _ (placed : is_misplaced is_next before bytes ≡ false) where
+    by_spelling : (rest : ℕ → ℕ → Body) (s : Spelling) → spelling bytes ≡ s → first_of is_next before bytes rest ≡ spelled_first s rest
+    by_spelling rest s spells = ap (λ (t : Bool). if t then Breaks 0 else spelled_first (spelling bytes) rest) placed ∙ ap (λ (x : Spelling). spelled_first x rest) spells
 
-    pub fit_next : is_next before index entry ≡ true → next ≡ old ++ (index, entry) ∷ [] → 1 ≤ size → size ≤ length bytes → ReadsNext bytes before old next (Some size)
-    fit_next fit items some short =
-        let parts = and_parts (nat_eq index (before + 1)) (nat_le index last_limit) fit in
+    pub spoils_next : (old : Numbered) (place : ℕ) → spelling bytes ≡ Spoils place → place ≤ length bytes → ReadsNext bytes before old old (Is_no_entry place)
+    spoils_next old place spoils low = ((λ rest. by_spelling rest (Spoils place) spoils), refl, low)
+
+    -- an index that may stand there is the next
+    pub next_index : (index : ℕ) (entry : Entry) (size : ℕ) → spelling bytes ≡ Spells index entry size → is_next before index ≡ true
+    next_index index entry size spells =
+        let has = index_read bytes index entry size spells in
+        let t = is_next before (number_at Eight 0 bytes) in
+        let misplaced : not t ≡ false = ap (λ (x : Bool). x && not t) (sym (le-leb 8 (length bytes) has.whole)) ∙ placed in
+        ap (is_next before) (sym has.is) ∙ is_true t misplaced
+      where
+        is_true : (t : Bool) → not t ≡ false → t ≡ true
+        is_true true is = refl
+        is_true false is = absurd (cc)
+
+    pub fit_next : (old next : Numbered) (index : ℕ) (entry : Entry) (size : ℕ) → spelling bytes ≡ Spells index entry size → next ≡ old ++ (index, entry) ∷ [] → 1 ≤ size → size ≤ length bytes → ReadsNext bytes before old next (Is_entry size)
+    fit_next old next index entry size spells items some short =
+        let parts = and_parts (nat_eq index (before + 1)) (nat_le index last_limit) (next_index index entry size spells) in
         let is : index ≡ before + 1 = eqb-true index (before + 1) parts.0 in (
           entry,
-          subst (λ (k : ℕ). spelling bytes ≡ Spells k entry size) is spells,
-          subst (λ (k : ℕ). is_next before k entry ≡ true) is fit,
+          (λ rest. by_spelling rest (Spells (before + 1) entry size) (subst (λ (k : ℕ). spelling bytes ≡ Spells k entry size) is spells)),
+          subst (λ (k : ℕ). k ≤ last_limit) is (leb-true index last_limit parts.1),
           subst (λ (k : ℕ). next ≡ old ++ (k, entry) ∷ []) is items,
           some,
           short,
@@ -213,6 +220,6 @@ all_behind : (bytes : List ℕ) (at : ℕ) → take (length bytes - at) (drop at
 all_behind bytes at = take_all (length bytes - at) (drop at bytes) (omega (arith, length-drop at bytes))
 
 -- what was read of the bytes from a place on
-pub next_at : (bytes : List ℕ) (at k : ℕ) (old new : Numbered) (o p : Option ℕ) → o ≡ p → ReadsNext (take (length bytes - at) (drop at bytes)) k old new o → ReadsNext (drop at bytes) k old new p
-next_at bytes at k old new o p is read =
-    subst (λ (l : List ℕ). ReadsNext l k old new p) (all_behind bytes at) (subst (λ (x : Option ℕ). ReadsNext (take (length bytes - at) (drop at bytes)) k old new x) is read)
+pub next_at : (bytes : List ℕ) (at k : ℕ) (old new : Numbered) (a b : EntryRead) → a ≡ b → ReadsNext (take (length bytes - at) (drop at bytes)) k old new a → ReadsNext (drop at bytes) k old new b
+next_at bytes at k old new a b is read =
+    subst (λ (l : List ℕ). ReadsNext l k old new b) (all_behind bytes at) (subst (λ (x : EntryRead). ReadsNext (take (length bytes - at) (drop at bytes)) k old new x) is read)

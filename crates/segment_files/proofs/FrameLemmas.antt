@@ -1,8 +1,8 @@
 -- What the bytes of a frame and of a descriptor are read as.
-use Rattle.std.proofs.Common.{◌≡◌, ℕ, ◌+◌, ◌-◌, ◌≤◌, Bool, true, false, nat_eq, nat_le, List, [], ◌∷◌, ◌++◌, length, drop, None, refl, ap, ◌∙◌, arith, if◌then◌else◌, append_assoc, length-append}
+use Rattle.std.proofs.Common.{◌≡◌, ℕ, ◌+◌, ◌-◌, ◌≤◌, Bool, true, false, not, ◌&&◌, nat_eq, nat_le, List, [], ◌∷◌, ◌++◌, length, drop, None, refl, ap, ◌∙◌, arith, if◌then◌else◌, append_assoc, length-append}
 use Rattle.std.proofs.lemmas.List.{append-nil, drop_all, take_all, take-append-le}
 use Rattle.std.specs.Int.{w32, to_be_bytes}
-use Rattle.std.proofs.lemmas.Bool.{and_from, eq-eqb, le-leb}
+use Rattle.std.proofs.lemmas.Bool.{and_from, and_right, eq-eqb, le-leb}
 use Rattle.std.proofs.lemmas.Nat.{from_be_bytes-to_be_bytes_4, from_be_bytes-to_be_bytes_8}
 use Rattle.disk_model.specs.Image.{IsFileId}
 use Rattle.disk_model.specs.declared.file_id.FileId.{FileId}
@@ -11,10 +11,11 @@ use Rattle.host_types.specs.Limits.{last_limit}
 use Rattle.host_types.specs.declared.entry.Entry.{Entry}
 use Rattle.entry_codec.specs.Spelled.{spelled}
 use Rattle.entry_codec.specs.Reading.{Spelling, Spells, spelling}
-use Rattle.segment_files.specs.Numbers.{Four, Eight, number_at}
-use Rattle.segment_files.specs.Parse.{Numbered, Holds, Breaks, with_entry, first_of, body, Framed, Whole, frame, frame_room, is_next, mark, parse, appended_part, descriptor_fields, first_wrong}
+use Rattle.segment_files.specs.Numbers.{One, Four, Eight, number_at}
+use Rattle.segment_files.specs.Parse.{Numbered, Holds, Breaks, with_entry, is_misplaced, spelled_first, body, Framed, Whole, frame, frame_room, is_next, mark, parse, appended_part, descriptor_fields, first_wrong}
 use Rattle.segment_files.specs.Contents.{appended_descriptor, descriptor_bytes, body_bytes, frame_bytes}
-use Rattle.segment_files.proofs.Descriptors.{right}
+use Rattle.segment_files.proofs.Descriptors.{field_exact, field_right, none_wrong}
+use Rattle.segment_files.proofs.Indexes.{index_read}
 use Rattle.segment_files.proofs.Bodies.{body_more, body_end}
 use Rattle.segment_files.proofs.Framing.{form, form_whole, frame_form, body_in, size_fits}
 use Rattle.segment_files.proofs.Scanning.{good_head}
@@ -47,14 +48,20 @@ module _ (before index : ℕ) (entry : Entry) (f : Follows before index entry) w
   pub length-one_frame : length (frame_bytes one) ≡ 1 + long
   length-one_frame = omega (arith, ap length body_is)
 
-  fit : is_next before index entry ≡ true
+  fit : is_next before index ≡ true
   fit = and_from (nat_eq index (before + 1)) (nat_le index last_limit) (eq-eqb index (before + 1) f.next) (le-leb index last_limit f.low)
+
+  placed : is_misplaced is_next before bytes ≡ false
+  placed =
+      ap (λ (k : ℕ). nat_le 8 (length bytes) && not (is_next before k)) (index_read bytes index entry (length bytes) f.spells).is
+      ∙ ap (λ (t : Bool). nat_le 8 (length bytes) && not t) fit
+      ∙ and_right (nat_le 8 (length bytes)) false refl
 
   body_read : body is_next frame_room before bytes ≡ Holds one
   body_read =
       body_more is_next 63 before bytes (let least = f.least in omega arith)
-      ∙ ap (λ (s : Spelling). first_of is_next before s (λ index size. body is_next 63 index (drop size bytes))) f.spells
-      ∙ ap (λ (t : Bool). if t then with_entry index entry (length bytes) (body is_next 63 index (drop (length bytes) bytes)) else Breaks 0) fit
+      ∙ ap (λ (t : Bool). if t then Breaks 0 else spelled_first (spelling bytes) (λ index size. body is_next 63 index (drop size bytes))) placed
+      ∙ ap (λ (s : Spelling). spelled_first s (λ index size. body is_next 63 index (drop size bytes))) f.spells
       ∙ ap (λ (l : List ℕ). with_entry index entry (length bytes) (body is_next 63 index l)) (drop_all (length bytes) bytes (omega arith))
       ∙ ap (with_entry index entry (length bytes)) (body_end is_next 63 index)
 
@@ -129,18 +136,49 @@ module _ (id : FileId) (size : ℕ) (is : IsFileId id) (least : 2 ≤ size) (mos
   unfolding number_at
   zero_60 = from_be_bytes-to_be_bytes_4 0 (omega arith)
 
+  whole : length head ≡ 64
+  whole = refl
+
   no_field_wrong : first_wrong (descriptor_fields id) head ≡ None
+  unfolding descriptor_fields number_at
   no_field_wrong =
-      right id head refl
-      (and_from _ _
-      (and_from _ _
-      (and_from _ _
-      (and_from _ _
-      (and_from _ _ refl (eq-eqb (number_at Four 4 head) mark mark_read))
-      (and_from _ _ (eq-eqb (number_at Eight 8 head) id.generation generation_read) (eq-eqb (number_at Eight 16 head) id.base base_read)))
-      (and_from _ _ (and_from _ _ (and_from _ _ (eq-eqb (number_at Eight 24 head) 0 zero_24) (eq-eqb (number_at Eight 32 head) 0 zero_32)) (eq-eqb (number_at Eight 40 head) 0 zero_40)) (eq-eqb (number_at Eight 48 head) 0 zero_48)))
-      (and_from _ _ (le-leb 2 (number_at Four 56 head) (omega (arith, size_read_back, least))) (le-leb (number_at Four 56 head) 65536 (omega (arith, size_read_back, most)))))
-      (eq-eqb (number_at Four 60 head) 0 zero_60))
+      none_wrong (descriptor_fields id) head (
+        field_exact 1 One 1 head (omega (arith, whole)) refl,
+        (
+          field_exact 2 One 0 head (omega (arith, whole)) refl,
+          (
+            field_exact 3 One 0 head (omega (arith, whole)) refl,
+            (
+              field_exact 4 Four mark head (omega (arith, whole)) mark_read,
+              (
+                field_exact 8 Eight id.generation head (omega (arith, whole)) generation_read,
+                (
+                  field_exact 16 Eight id.base head (omega (arith, whole)) base_read,
+                  (
+                    field_exact 24 Eight 0 head (omega (arith, whole)) zero_24,
+                    (
+                      field_exact 32 Eight 0 head (omega (arith, whole)) zero_32,
+                      (
+                        field_exact 40 Eight 0 head (omega (arith, whole)) zero_40,
+                        (
+                          field_exact 48 Eight 0 head (omega (arith, whole)) zero_48,
+                          (
+                            field_right (record { at = 56; size = Four; least = 2; most = 65536 }) head (omega (arith, whole)) (omega (arith, size_read_back, least)) (omega (arith, size_read_back, most)),
+                            (
+                              field_exact 60 Four 0 head (omega (arith, whole)) zero_60,
+                              tt,
+                            ),
+                          ),
+                        ),
+                      ),
+                    ),
+                  ),
+                ),
+              ),
+            ),
+          ),
+        ),
+      )
 
   -- with a shut gate behind it, it is a part without entries
   pub tail_read : (rest : List ℕ) → parse id (descriptor_bytes (appended_descriptor id size) ++ 0 ∷ rest)

@@ -1,11 +1,12 @@
 -- Which bytes behind an open gate are a frame of an appended file.
-use Rattle.std.proofs.Common.{◌≡◌, ◌⊎◌, inl, inr, ℕ, ◌+◌, ◌<◌, ◌≤◌, Bool, true, false, not, ◌&&◌, nat_lt, nat_le, List, [], ◌++◌, length, take, drop, refl, sym, ap, subst, ◌∙◌, arith, rules, if◌then◌else◌, length-take, length-drop, length-append}
-use Rattle.std.proofs.lemmas.List.{take-append-le, drop-append-le, get_or_append_left}
-use Rattle.std.proofs.lemmas.Bool.{and_from, le-ltb, le-leb, lt-ltb, lt-leb}
+use Rattle.std.proofs.Common.{◌≡◌, ◌⊎◌, inl, inr, ⊎_elim, ℕ, ◌+◌, ◌-◌, ◌<◌, ◌≤◌, min, Bool, true, false, not, ◌&&◌, nat_lt, nat_le, List, [], ◌++◌, length, take, drop, Some, None, refl, sym, ap, subst, ◌∙◌, arith, if◌then◌else◌, length-take, length-drop, length-append}
+use Rattle.std.proofs.lemmas.List.{append-nil, take_all, take-append-le, drop-append-le, get_or_append_left}
+use Rattle.std.proofs.lemmas.Bool.{and_from, cases_lt, le-ltb, le-leb, lt-ltb, lt-leb}
 use Rattle.std.specs.Int.{w32, w64, from_be_bytes}
-use Rattle.segment_files.specs.Numbers.{Size, One, Four, Eight, bytes_of, number_at}
-use Rattle.segment_files.specs.Parse.{Numbered, Body, Holds, Breaks, body, body_limit, Frame, Framed, Crooked, framed, frame, frame_room, is_next}
-use Rattle.segment_files.specs.Contents.{IsBroken, IsCrooked, ReadsBody, ReadsFrame}
+use Rattle.segment_files.specs.declared.numbers.Size.{Size}
+use Rattle.segment_files.specs.Numbers.{One, Four, Eight, bytes_of, number_at}
+use Rattle.segment_files.specs.Parse.{Numbered, Body, Holds, body, body_limit, Frame, Framed, Crooked, framed, frame, frame_room, is_next}
+use Rattle.segment_files.specs.Contents.{MayFollow, ReadsBody, ReadsFrame}
 use Rattle.segment_files.specs.declared.windows.FrameRead.TheVariants.{Whole as Is_whole, Cut as Is_cut, Damaged as Is_no_frame}
 use Rattle.segment_files.proofs.Bodies.{some_entry}
 
@@ -37,39 +38,18 @@ unfolding frame
 frame_form before l = refl
 
 -- by the three tests
-form_few : (size long : ℕ) (b : Body) → long < 4 → IsCrooked (form size long b)
-form_few size long b few = subst (λ (t : Bool). IsCrooked (if t then Crooked long else if not (fits size) then Crooked 0 else framed size long b)) (sym (lt-ltb long 4 few)) tt
+form_few : (size long : ℕ) (b : Body) → long < 4 → form size long b ≡ Crooked long
+form_few size long b few = ap (λ (t : Bool). if t then Crooked long else if not (fits size) then Crooked 0 else framed size long b) (lt-ltb long 4 few)
 
-form_size : (size long : ℕ) (b : Body) → fits size ≡ false → IsCrooked (form size long b)
-form_size size long b unfit = at (nat_lt long 4)
-  where
-    at : (t : Bool) → IsCrooked (if t then Crooked long else if not (fits size) then Crooked 0 else framed size long b)
-    at true = tt
-    at false = subst (λ (t : Bool). IsCrooked (if not t then Crooked 0 else framed size long b)) (sym unfit) tt
+form_size : (size long : ℕ) (b : Body) → 4 ≤ long → fits size ≡ false → form size long b ≡ Crooked 0
+form_size size long b some unfit =
+    ap (λ (t : Bool). if t then Crooked long else if not (fits size) then Crooked 0 else framed size long b) (le-ltb long 4 some)
+    ∙ ap (λ (t : Bool). if not t then Crooked 0 else framed size long b) unfit
 
-form_broken : (size long : ℕ) (b : Body) → IsBroken b → IsCrooked (form size long b)
-form_broken size long b broken = at (nat_lt long 4) (fits size)
-  where
-    of : (d : Body) → IsBroken d → IsCrooked (framed size long d)
-    of (Holds es) broken = absurd broken
-    of (Breaks place) broken = tt
-
-    at : (t u : Bool) → IsCrooked (if t then Crooked long else if not u then Crooked 0 else framed size long b)
-    at true u = tt
-    at false true = of b broken
-    at false false = tt
-
-form_short : (size long : ℕ) (b : Body) → long < 4 + size → IsCrooked (form size long b)
-form_short size long b short = at (nat_lt long 4) (fits size)
-  where
-    of : (d : Body) → IsCrooked (framed size long d)
-    of (Breaks place) = tt
-    of (Holds es) = subst (λ (t : Bool). IsCrooked (if t then Crooked long else Framed es (4 + size))) (sym (lt-ltb long (4 + size) short)) tt
-
-    at : (t u : Bool) → IsCrooked (if t then Crooked long else if not u then Crooked 0 else framed size long b)
-    at true u = tt
-    at false true = of b
-    at false false = tt
+form_body : (size long : ℕ) (b : Body) → 4 ≤ long → fits size ≡ true → form size long b ≡ framed size long b
+form_body size long b some fit =
+    ap (λ (t : Bool). if t then Crooked long else if not (fits size) then Crooked 0 else framed size long b) (le-ltb long 4 some)
+    ∙ ap (λ (t : Bool). if not t then Crooked 0 else framed size long b) fit
 
 pub form_whole : (size long : ℕ) (es : Numbered) → 4 + size ≤ long → fits size ≡ true → form size long (Holds es) ≡ Framed es (4 + size)
 form_whole size long es le fit =
@@ -90,84 +70,127 @@ size_large size large = ap (λ (t : Bool). nat_le 17 size && t) (lt-leb size bod
     of true = refl
     of false = refl
 
--- too little is at hand
-module _ (before : ℕ) (behind : List ℕ) (old : Numbered) where
-  cut : IsCrooked (form (number_at Four 0 behind) (length behind) (body_in before (number_at Four 0 behind) behind)) → (new : Numbered) → new ≡ old → ReadsFrame behind before old new Is_cut
-  cut crooked new same = record {
-    more = [];
-    items = same ∙ search rules;
-    is = (refl, subst (λ (f : Frame). IsCrooked f) (sym (frame_form before behind)) crooked);
-  }
-
-  pub cut_length : (new : Numbered) → new ≡ old → length behind < 4 → ReadsFrame behind before old new Is_cut
-  cut_length new same few = cut (form_few (number_at Four 0 behind) (length behind) (body_in before (number_at Four 0 behind) behind) few) new same
-
-  pub cut_body : (new : Numbered) → new ≡ old → length behind < 4 + number_at Four 0 behind → ReadsFrame behind before old new Is_cut
-  cut_body new same short = cut (form_short (number_at Four 0 behind) (length behind) (body_in before (number_at Four 0 behind) behind) short) new same
-
-module _ (before : ℕ) (behind : List ℕ) (long : 4 ≤ length behind) where
+module _ (before : ℕ) (behind : List ℕ) where
   abbrev size : ℕ
   size = number_at Four 0 behind
 
-  size_ahead : (rest : List ℕ) → number_at Four 0 (behind ++ rest) ≡ size
-  size_ahead rest = number_ahead Four 0 behind rest (omega (arith, long))
+  -- where the file ends, nothing follows
+  at_end : (is_end : Bool) → is_end ≡ true → (rest : List ℕ) → MayFollow is_end rest → behind ++ rest ≡ behind
+  at_end is_end is rest may = ap (λ (l : List ℕ). behind ++ l) (may is) ∙ append-nil behind
 
-  -- what is behind the gate, where more follows
-  form_ahead : (rest : List ℕ) → frame is_next frame_room before (behind ++ rest) ≡ form size (length (behind ++ rest)) (body_in before size (behind ++ rest))
-  form_ahead rest = frame_form before (behind ++ rest) ∙ ap (λ (k : ℕ). form k (length (behind ++ rest)) (body_in before k (behind ++ rest))) (size_ahead rest)
-
-  body_ahead : (rest : List ℕ) → 4 + size ≤ length behind → take size (drop 4 (behind ++ rest)) ≡ take size (drop 4 behind)
-  body_ahead rest le = ap (take size) (drop-append-le 4 behind rest long) ∙ take-append-le size (drop 4 behind) rest (omega (arith, le, length-drop 4 behind))
-
-  pub no_frame_size : (old : Numbered) → (size < 17) ⊎ (body_limit < size) → ReadsFrame behind before old old Is_no_frame
-  no_frame_size old out = record {
+  -- less than a length
+  pub cut_length : (is_end : Bool) (old : Numbered) → length behind < 4 → ReadsFrame behind is_end before old old (if is_end then Is_no_frame (length behind) else Is_cut)
+  cut_length true old few = record {
     more = [];
-    items = search rules;
-    is = λ rest. subst (λ (f : Frame). IsCrooked f) (sym (form_ahead rest)) (form_size size (length (behind ++ rest)) (body_in before size (behind ++ rest)) (unfit out));
+    items = sym (append-nil old);
+    is = (
+      (λ rest may.
+          ap (frame is_next frame_room before) (at_end true refl rest may)
+          ∙ frame_form before behind
+          ∙ form_few size (length behind) (body_in before size behind) few),
+      omega arith,
+    );
   }
-    where
-      unfit : (size < 17) ⊎ (body_limit < size) → fits size ≡ false
-      unfit (inl small) = size_small size small
-      unfit (inr large) = size_large size large
+  cut_length false old few = record { more = []; items = sym (append-nil old); is = (refl, refl) }
 
-  module _ (le : 4 + size ≤ length behind) (old new : Numbered) where
-    pub no_frame_body : ReadsBody (take size (drop 4 behind)) before old new false → ReadsFrame behind before old new Is_no_frame
-    no_frame_body r = record {
-      more = r.more;
-      items = r.items;
-      is = λ rest. subst (λ (f : Frame). IsCrooked f) (sym (form_ahead rest))
-          (form_broken size (length (behind ++ rest)) (body_in before size (behind ++ rest))
-          (subst (λ (l : List ℕ). IsBroken (body is_next frame_room before l)) (sym (body_ahead rest le)) (r.breaks refl)));
+  -- less than a body, where the file may go on
+  pub cut_body : (is_end : Bool) (old : Numbered) → is_end ≡ false → ReadsFrame behind is_end before old old Is_cut
+  cut_body is_end old is = record { more = []; items = sym (append-nil old); is = (refl, is) }
+
+  module _ (long : 4 ≤ length behind) where
+    -- what is behind the gate, where more follows
+    form_ahead : (rest : List ℕ) → frame is_next frame_room before (behind ++ rest) ≡ form size (length (behind ++ rest)) (body_in before size (behind ++ rest))
+    form_ahead rest = frame_form before (behind ++ rest) ∙ ap (λ (k : ℕ). form k (length (behind ++ rest)) (body_in before k (behind ++ rest))) (number_ahead Four 0 behind rest (omega (arith, long)))
+
+    more_there : (rest : List ℕ) → 4 ≤ length (behind ++ rest)
+    more_there rest = omega (arith, long, length-append behind rest)
+
+    pub no_frame_size : (is_end : Bool) (old : Numbered) → (size < 17) ⊎ (body_limit < size) → ReadsFrame behind is_end before old old (Is_no_frame 0)
+    no_frame_size is_end old out = record {
+      more = [];
+      items = sym (append-nil old);
+      is = ((λ rest may. form_ahead rest ∙ form_size size (length (behind ++ rest)) (body_in before size (behind ++ rest)) (more_there rest) (unfit out)), omega arith);
     }
+      where
+        unfit : (size < 17) ⊎ (body_limit < size) → fits size ≡ false
+        unfit (inl small) = size_small size small
+        unfit (inr large) = size_large size large
 
-    pub whole_frame : 17 ≤ size → size ≤ body_limit → ReadsBody (take size (drop 4 behind)) before old new true → ReadsFrame behind before old new (Is_whole (4 + size))
-    whole_frame least most r = record {
-      more = r.more;
-      items = r.items;
-      is = (
-        (λ rest.
-            form_ahead rest
-            ∙ ap (λ (l : List ℕ). form size (length (behind ++ rest)) (body is_next frame_room before l)) (body_ahead rest le)
-            ∙ ap (form size (length (behind ++ rest))) (r.holds (search rules))
-            ∙ form_whole size (length (behind ++ rest)) r.more (omega (arith, le, length-append behind rest)) (size_fits size least most)),
-        le,
-        omega (arith, most),
-        some_entry is_next frame_room before (take size (drop 4 behind)) r.more (omega (arith, length-take size (drop 4 behind), length-drop 4 behind, le, least)) (r.holds (search rules)),
-      );
-    }
+    -- A body of which so many bytes are there: all of them, or those up to the end of the file.
+    module _ (is_end : Bool) (there : ℕ) (least : 17 ≤ size) (most : size ≤ body_limit) (there_is : there ≡ min size (length behind - 4)) (enough : there < size → is_end ≡ true) where
+      by_body : (rest : List ℕ) → frame is_next frame_room before (behind ++ rest) ≡ framed size (length (behind ++ rest)) (body_in before size (behind ++ rest))
+      by_body rest = form_ahead rest ∙ form_body size (length (behind ++ rest)) (body_in before size (behind ++ rest)) (more_there rest) (size_fits size least most)
 
--- a frame by the size that was read
-module _ (before : ℕ) (behind : List ℕ) (old new : Numbered) (size_read : ℕ) (size_is : size_read ≡ number_at Four 0 behind) (enough : 4 + size_read ≤ length behind) where
-  body_at : (n : ℕ) (b c : Bool) → n ≡ size_read → b ≡ c → ReadsBody (take n (drop 4 behind)) before old new b → ReadsBody (take (number_at Four 0 behind) (drop 4 behind)) before old new c
-  body_at n b c n_is is read = subst (λ (k : ℕ). ReadsBody (take k (drop 4 behind)) before old new c) (n_is ∙ size_is) (subst (λ (x : Bool). ReadsBody (take n (drop 4 behind)) before old new x) is read)
+      -- what is there of the body is all that there is
+      all_there : (rest : List ℕ) → MayFollow is_end rest → take size (drop 4 (behind ++ rest)) ≡ take there (drop 4 behind)
+      all_there rest may = ⊎_elim
+          (λ less.
+          let end = at_end is_end (enough less) rest may in
+          ap (λ (l : List ℕ). take size (drop 4 l)) end
+          ∙ take_all size (drop 4 behind) (omega (arith, there_is, less, length-drop 4 behind))
+          ∙ sym (take_all there (drop 4 behind) (omega (arith, there_is, less, length-drop 4 behind))))
+          (λ all.
+          let same : there ≡ size = omega (arith, there_is, all) in
+          ap (take size) (drop-append-le 4 behind rest long)
+          ∙ take-append-le size (drop 4 behind) rest (omega (arith, there_is, all, length-drop 4 behind))
+          ∙ ap (λ (k : ℕ). take k (drop 4 behind)) (sym same))
+          (cases_lt there size)
 
-  there : 4 + number_at Four 0 behind ≤ length behind
-  there = omega (arith, size_is, enough)
+      body_there : (rest : List ℕ) → MayFollow is_end rest → body_in before size (behind ++ rest) ≡ body is_next frame_room before (take there (drop 4 behind))
+      body_there rest may = ap (body is_next frame_room before) (all_there rest may)
 
-  pub frame_broken : (n : ℕ) (b : Bool) → n ≡ size_read → b ≡ false → ReadsBody (take n (drop 4 behind)) before old new b → ReadsFrame behind before old new Is_no_frame
-  frame_broken n b n_is is read = no_frame_body before behind (omega (arith, enough)) there old new (body_at n b false n_is is read)
+      -- it breaks
+      pub frame_broken : (old new : Numbered) (place : ℕ) → ReadsBody (take there (drop 4 behind)) before old new (Some place) → ReadsFrame behind is_end before old new (Is_no_frame (4 + place))
+      frame_broken old new place r = record {
+        more = r.more;
+        items = r.items;
+        is = (
+          (λ rest may. by_body rest ∙ ap (framed size (length (behind ++ rest))) (body_there rest may ∙ r.is.0)),
+          (let low = r.is.1 in omega (arith, low, length-take there (drop 4 behind), length-drop 4 behind, long)),
+        );
+      }
 
-  pub frame_whole : (n : ℕ) (b : Bool) → n ≡ size_read → b ≡ true → 17 ≤ size_read → size_read ≤ body_limit → ReadsBody (take n (drop 4 behind)) before old new b → ReadsFrame behind before old new (Is_whole (4 + size_read))
-  frame_whole n b n_is is least most read =
-      subst (λ (k : ℕ). ReadsFrame behind before old new (Is_whole (4 + k))) (sym size_is)
-      (whole_frame before behind (omega (arith, enough)) there old new (omega (arith, size_is, least)) (omega (arith, size_is, most)) (body_at n b true n_is is read))
+      -- it is entries, and cut by the end of the file
+      frame_short : (old new : Numbered) → length behind < 4 + size → ReadsBody (take there (drop 4 behind)) before old new None → ReadsFrame behind is_end before old new (Is_no_frame (length behind))
+      frame_short old new short r =
+          let end : is_end ≡ true = enough (omega (arith, there_is, short)) in
+          record {
+            more = r.more;
+            items = r.items;
+            is = (
+              (λ rest may.
+                  by_body rest
+                  ∙ ap (framed size (length (behind ++ rest))) (body_there rest may ∙ r.is)
+                  ∙ ap (λ (l : List ℕ). if nat_lt (length l) (4 + size) then Crooked (length l) else Framed r.more (4 + size)) (at_end is_end end rest may)
+                  ∙ ap (λ (t : Bool). if t then Crooked (length behind) else Framed r.more (4 + size)) (lt-ltb (length behind) (4 + size) short)),
+              omega arith,
+            );
+          }
+
+      -- it is entries, and whole
+      frame_whole : (old new : Numbered) → 4 + size ≤ length behind → ReadsBody (take there (drop 4 behind)) before old new None → ReadsFrame behind is_end before old new (Is_whole (4 + size))
+      frame_whole old new le r =
+          let same : there ≡ size = omega (arith, there_is, le) in
+          let bytes_are : (rest : List ℕ) → take size (drop 4 (behind ++ rest)) ≡ take there (drop 4 behind) =
+          λ rest. ap (take size) (drop-append-le 4 behind rest long) ∙ take-append-le size (drop 4 behind) rest (omega (arith, le, length-drop 4 behind)) ∙ ap (λ (k : ℕ). take k (drop 4 behind)) (sym same) in
+          record {
+            more = r.more;
+            items = r.items;
+            is = (
+              (λ rest.
+                  by_body rest
+                  ∙ ap (λ (l : List ℕ). framed size (length (behind ++ rest)) (body is_next frame_room before l)) (bytes_are rest)
+                  ∙ ap (framed size (length (behind ++ rest))) r.is
+                  ∙ ap (λ (t : Bool). if t then Crooked (length (behind ++ rest)) else Framed r.more (4 + size)) (le-ltb (length (behind ++ rest)) (4 + size) (omega (arith, le, length-append behind rest)))),
+              le,
+              omega (arith, most),
+              some_entry is_next frame_room before (take there (drop 4 behind)) r.more (omega (arith, same, length-take there (drop 4 behind), length-drop 4 behind, le, least)) r.is,
+            );
+          }
+
+      pub frame_right : (old new : Numbered) → ReadsBody (take there (drop 4 behind)) before old new None
+          → ReadsFrame behind is_end before old new (if nat_lt (length behind) (4 + size) then Is_no_frame (length behind) else Is_whole (4 + size))
+      frame_right old new r = ⊎_elim
+          (λ less. subst (λ (t : Bool). ReadsFrame behind is_end before old new (if t then Is_no_frame (length behind) else Is_whole (4 + size))) (sym (lt-ltb (length behind) (4 + size) less)) (frame_short old new less r))
+          (λ more. subst (λ (t : Bool). ReadsFrame behind is_end before old new (if t then Is_no_frame (length behind) else Is_whole (4 + size))) (sym (le-ltb (length behind) (4 + size) more)) (frame_whole old new more r))
+          (cases_lt (length behind) (4 + size))

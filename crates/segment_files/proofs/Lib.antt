@@ -4,6 +4,7 @@ pub mod Appending
 pub mod Closed
 pub mod Settling
 pub mod Descriptors
+pub mod Indexes
 pub mod Framing
 pub mod Walks
 pub mod Writing

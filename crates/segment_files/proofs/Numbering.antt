@@ -15,8 +15,8 @@ numbered_more first (e ∷ es) index entry (at, here, fit, rest) next range fits
     (at, here, fit, numbered_more (first + 1) es index entry rest (omega (arith, next)) range fits)
 
 -- which index follows
-pub next_is : (before index : ℕ) (entry : Entry) → is_next before index entry ≡ true → index ≡ before + 1
-next_is before index entry fit = eqb-true index (before + 1) (and_parts (nat_eq index (before + 1)) (nat_le index last_limit) fit).0
+pub next_is : (before index : ℕ) → is_next before index ≡ true → index ≡ before + 1
+next_is before index fit = eqb-true index (before + 1) (and_parts (nat_eq index (before + 1)) (nat_le index last_limit) fit).0
 
 -- how many there are behind those of a body that were read
 pub counted_on : (bytes : List ℕ) (before count at : ℕ) (old new : Numbered) → BodyPassed bytes before count at old new → (first : ℕ) → before ≡ first + length old → before + count ≡ first + length new

@@ -1,12 +1,12 @@
 -- How the walk over the frames goes on, from one frame to the next.
 use Rattle.std.proofs.Common.{◌≡◌, ℕ, zero, suc, ◌+◌, ◌-◌, ◌*◌, ◌<◌, ◌≤◌, Bool, false, nat_eq, List, [], ◌∷◌, ◌++◌, length, take, drop, get_or, refl, sym, ap, subst, ◌∙◌, arith, if◌then◌else◌, append_assoc, length-append, length-drop}
-use Rattle.std.proofs.lemmas.List.{append-nil, drop-drop, drop_more, drop-append-le, drop_all, take_all}
+use Rattle.std.proofs.lemmas.List.{append-nil, drop-drop, drop_more, drop-append-le, take_all}
 use Rattle.std.proofs.lemmas.Bool.{ne_eqb}
 use Rattle.segment_files.specs.declared.windows.Walked.TheVariants.{Gate, Rest, Damaged as Is_damaged}
 use Rattle.segment_files.specs.declared.windows.FrameRead.{FrameRead}
 use Rattle.segment_files.specs.declared.windows.FrameRead.TheVariants.{Whole as Is_whole, Cut as Is_cut, Damaged as Is_no_frame}
 use Rattle.segment_files.specs.Parse.{Numbered, Frame, Framed, Crooked, frame, frame_room, is_next, Walk, Ends, Fails, behind_byte, behind_frame, go_on, appended_walk}
-use Rattle.segment_files.specs.Contents.{IsCrooked, IsFailing, extended, frame_limit, ReadsFrame, ReadsWindow}
+use Rattle.segment_files.specs.Contents.{extended, frame_limit, ReadsFrame, ReadsWindow}
 
 pub extended_none : (w : Walk) → w ≡ extended [] 0 w
 extended_none (Ends es g) = ap (λ (k : ℕ). Ends es k) (omega arith)
@@ -23,11 +23,6 @@ extended_frame ahead g (Fails at) = ap (λ (k : ℕ). Fails k) (omega arith)
 pub extended_more : (es fs : Numbered) (g h : ℕ) (w : Walk) → extended es g (extended fs h w) ≡ extended (es ++ fs) (g + h) w
 extended_more es fs g h (Ends more at) = ap (λ (k : ℕ). Ends (es ++ (fs ++ more)) k) (omega arith) ∙ ap (λ (x : Numbered). Ends x (g + h + at)) (sym (append_assoc es fs more))
 extended_more es fs g h (Fails at) = ap (λ (k : ℕ). Fails k) (omega arith)
-
--- what fails further on fails
-pub extended_fails : (es : Numbered) (g : ℕ) (w : Walk) → IsFailing w → IsFailing (extended es g w)
-extended_fails es g (Ends more at) fails = fails
-extended_fails es g (Fails at) fails = tt
 
 walk_skip : (k before b : ℕ) (l : List ℕ) → appended_walk (suc k) before (b ∷ l) ≡ behind_byte (appended_walk k before l)
 unfolding appended_walk
@@ -61,18 +56,8 @@ one_frame before size es l le is =
     ∙ extended_frame es size (appended_walk 0 (before + length es) (drop size l))
 
 -- behind an open gate that no frame follows
-pub no_frame : (before : ℕ) (l : List ℕ) → IsCrooked (frame is_next frame_room before l) → IsFailing (appended_walk 0 before (1 ∷ l))
-no_frame before l bad = subst (λ (w : Walk). IsFailing w) (sym (walk_open before l)) (by (frame is_next frame_room before l) bad)
-  where
-    by : (f : Frame) → IsCrooked f → IsFailing (go_on f (λ entries size. appended_walk size (before + length entries) l))
-    by (Framed es n) bad = absurd bad
-    by (Crooked p) bad = tt
-
--- nothing at all
-stuck_none : (window : List ℕ) (before : ℕ) → length window ≤ 0 → IsFailing (appended_walk 0 before window)
-stuck_none window before le =
-    let none : window ≡ [] = drop_all 0 window le in
-    subst (λ (w : Walk). IsFailing w) (sym (ap (appended_walk 0 before) none ∙ walk_none before)) tt
+pub no_frame : (before place : ℕ) (l : List ℕ) → frame is_next frame_room before l ≡ Crooked place → appended_walk 0 before (1 ∷ l) ≡ Fails (suc place)
+no_frame before place l is = walk_open before l ∙ ap (λ (f : Frame). go_on f (λ entries size. appended_walk size (before + length entries) l)) is
 
 -- THE WINDOW, as far as it was read: whole frames.
 pub record Passed (window : List ℕ) (before : ℕ) (old new : Numbered) (at : ℕ) : Type 0 where
@@ -89,7 +74,7 @@ passed_none window before old = record {
   walk = λ rest. extended_none (appended_walk 0 before (window ++ rest)) ∙ ap (λ (k : ℕ). extended [] 0 (appended_walk 0 k (window ++ rest))) (omega arith);
 }
 
-module _ (window : List ℕ) (before : ℕ) (old new : Numbered) (at : ℕ) (passed : Passed window before old new at) where
+module _ (window : List ℕ) (is_end : Bool) (before : ℕ) (old new : Numbered) (at : ℕ) (passed : Passed window before old new at) where
   -- the index before the next
   abbrev now : ℕ
   now = before + length passed.more
@@ -108,35 +93,35 @@ module _ (window : List ℕ) (before : ℕ) (old new : Numbered) (at : ℕ) (pas
   from_gate lt opened rest = passed.walk rest ∙ ap (λ (l : List ℕ). extended passed.more at (appended_walk 0 now (l ++ rest))) (at_gate 1 lt opened)
 
   -- a gate that isn't open
-  pub ends : at < length window → (get_or window at 0 ≡ 1 → ⊥) → ReadsWindow window before old new (Gate at)
+  pub ends : at < length window → (get_or window at 0 ≡ 1 → ⊥) → ReadsWindow window is_end before old new (Gate at)
   ends lt shut =
       let b = get_or window at 0 in
       record {
         more = passed.more;
         items = passed.items;
         within = passed.within;
-        walk = λ rest.
+        walk = λ rest may.
             passed.walk rest
             ∙ ap (λ (l : List ℕ). extended passed.more at (appended_walk 0 now (l ++ rest))) (at_gate b lt refl)
             ∙ ap (extended passed.more at) (walk_shut now b (behind ++ rest) (ne_eqb b 1 shut))
             ∙ ap (λ (l : Numbered). Ends l (at + 0)) (append-nil passed.more)
             ∙ ap (λ (k : ℕ). Ends passed.more k) (omega arith);
-        stuck = λ is. absurd (cc);
+        all = tt;
       }
 
   -- the end
-  pub ends_all : length window ≤ at → ReadsWindow window before old new (Rest at)
+  pub ends_all : length window ≤ at → ReadsWindow window is_end before old new (Rest at)
   ends_all le = record {
     more = passed.more;
     items = passed.items;
     within = passed.within;
-    walk = λ rest. passed.walk rest ∙ ap (λ (l : List ℕ). extended passed.more at (appended_walk 0 now l)) (sym (drop-append-le at window rest passed.within));
-    stuck = λ is. let none : at ≡ 0 = cc in stuck_none window before (omega (arith, none, le));
+    walk = λ rest may. passed.walk rest ∙ ap (λ (l : List ℕ). extended passed.more at (appended_walk 0 now l)) (sym (drop-append-le at window rest passed.within));
+    all = λ is. le;
   }
 
   module _ (lt : at < length window) (opened : get_or window at 0 ≡ 1) (k : ℕ) (k_is : k + length old ≡ before + length new) (next : Numbered) where
     -- a frame
-    pub passed_frame : (size : ℕ) → ReadsFrame behind k new next (Is_whole size) → Passed window before old next (at + (1 + size))
+    pub passed_frame : (size : ℕ) → ReadsFrame behind is_end k new next (Is_whole size) → Passed window before old next (at + (1 + size))
     passed_frame size r =
         let es = r.more in
         let long = r.is.1 in
@@ -156,7 +141,7 @@ module _ (window : List ℕ) (before : ℕ) (old new : Numbered) (at : ℕ) (pas
               ∙ ap (λ (j : ℕ). extended (passed.more ++ es) j (appended_walk 0 (before + length (passed.more ++ es)) (drop (at + (1 + size)) window ++ rest))) (omega arith);
         }
 
-    pub passed_measured : (size : ℕ) → ReadsFrame behind k new next (Is_whole size) → at + frame_limit * length old ≤ frame_limit * length new → at + (1 + size) + frame_limit * length old ≤ frame_limit * length next
+    pub passed_measured : (size : ℕ) → ReadsFrame behind is_end k new next (Is_whole size) → at + frame_limit * length old ≤ frame_limit * length new → at + (1 + size) + frame_limit * length old ≤ frame_limit * length next
     passed_measured size r so_far =
         let short = r.is.2 in
         let some = r.is.3 in
@@ -164,40 +149,37 @@ module _ (window : List ℕ) (before : ℕ) (old new : Numbered) (at : ℕ) (pas
         omega (arith, short, some, count, so_far)
 
     -- too little of a frame
-    pub rests : ReadsFrame behind k new next Is_cut → ReadsWindow window before old next (Rest at)
+    pub rests : ReadsFrame behind is_end k new next Is_cut → ReadsWindow window is_end before old next (Rest at)
     rests r =
         let same : next ≡ old ++ passed.more = r.items ∙ ap (λ (l : Numbered). new ++ l) r.is.0 ∙ append-nil new ∙ passed.items in
         record {
           more = passed.more;
           items = same;
           within = passed.within;
-          walk = λ rest. passed.walk rest ∙ ap (λ (l : List ℕ). extended passed.more at (appended_walk 0 now l)) (sym (drop-append-le at window rest passed.within));
-          stuck = λ is.
-              let crooked : IsCrooked (frame is_next frame_room now behind) = subst (λ (j : ℕ). IsCrooked (frame is_next frame_room j behind)) (counted k k_is) r.is.1 in
-              let fails : IsFailing (extended passed.more at (appended_walk 0 now (1 ∷ behind))) = extended_fails passed.more at (appended_walk 0 now (1 ∷ behind)) (no_frame now behind crooked) in
-              let whole : appended_walk 0 before window ≡ extended passed.more at (appended_walk 0 now (1 ∷ behind)) =
-              ap (appended_walk 0 before) (sym (append-nil window)) ∙ from_gate lt opened [] ∙ ap (λ (l : List ℕ). extended passed.more at (appended_walk 0 now (1 ∷ l))) (append-nil behind) in
-              subst (λ (w : Walk). IsFailing w) (sym whole) fails;
+          walk = λ rest may. passed.walk rest ∙ ap (λ (l : List ℕ). extended passed.more at (appended_walk 0 now l)) (sym (drop-append-le at window rest passed.within));
+          all = λ is. absurd (cc (is, r.is.1));
         }
 
-    pub rests_measured : ReadsFrame behind k new next Is_cut → at + frame_limit * length old ≤ frame_limit * length new → at + frame_limit * length old ≤ frame_limit * length next
+    pub rests_measured : ReadsFrame behind is_end k new next Is_cut → at + frame_limit * length old ≤ frame_limit * length new → at + frame_limit * length old ≤ frame_limit * length next
     rests_measured r so_far = omega (arith, so_far, ap length r.items, length-append new r.more)
 
     -- a frame that isn't right
-    pub breaks : ReadsFrame behind k new next Is_no_frame → ReadsWindow window before old next Is_damaged
-    breaks r = record {
+    pub breaks : (place : ℕ) → ReadsFrame behind is_end k new next (Is_no_frame place) → ReadsWindow window is_end before old next (Is_damaged (at + 1 + place))
+    breaks place r = record {
       more = passed.more ++ r.more;
       items = r.items ∙ ap (λ (l : Numbered). l ++ r.more) passed.items ∙ append_assoc old passed.more r.more;
-      within = tt;
-      walk = λ rest.
-          let crooked : IsCrooked (frame is_next frame_room now (behind ++ rest)) = subst (λ (j : ℕ). IsCrooked (frame is_next frame_room j (behind ++ rest))) (counted k k_is) (r.is rest) in
-          subst (λ (w : Walk). IsFailing w) (sym (from_gate lt opened rest)) (extended_fails passed.more at (appended_walk 0 now (1 ∷ (behind ++ rest))) (no_frame now (behind ++ rest) crooked));
-      stuck = λ is. absurd (cc);
+      within = (let low = r.is.1 in omega (arith, low, length-drop (at + 1) window, lt));
+      walk = λ rest may.
+          let crooked : frame is_next frame_room now (behind ++ rest) ≡ Crooked place = subst (λ (j : ℕ). frame is_next frame_room j (behind ++ rest) ≡ Crooked place) (counted k k_is) (r.is.0 rest may) in
+          from_gate lt opened rest
+          ∙ ap (extended passed.more at) (no_frame now place (behind ++ rest) crooked)
+          ∙ ap (λ (j : ℕ). Fails j) (omega arith);
+      all = tt;
     }
 
 -- what was read of the window behind a gate
-pub frame_at : (window : List ℕ) (at k : ℕ) (old new : Numbered) (a b : FrameRead) → at < length window → a ≡ b
-    → ReadsFrame (take (length window - (at + 1)) (drop (at + 1) window)) k old new a → ReadsFrame (drop (at + 1) window) k old new b
-frame_at window at k old new a b lt is read =
-    subst (λ (l : List ℕ). ReadsFrame l k old new b) (take_all (length window - (at + 1)) (drop (at + 1) window) (omega (arith, length-drop (at + 1) window)))
-    (subst (λ (x : FrameRead). ReadsFrame (take (length window - (at + 1)) (drop (at + 1) window)) k old new x) is read)
+pub frame_at : (window : List ℕ) (is_end : Bool) (at k : ℕ) (old new : Numbered) (a b : FrameRead) → at < length window → a ≡ b
+    → ReadsFrame (take (length window - (at + 1)) (drop (at + 1) window)) is_end k old new a → ReadsFrame (drop (at + 1) window) is_end k old new b
+frame_at window is_end at k old new a b lt is read =
+    subst (λ (l : List ℕ). ReadsFrame l is_end k old new b) (take_all (length window - (at + 1)) (drop (at + 1) window) (omega (arith, length-drop (at + 1) window)))
+    (subst (λ (x : FrameRead). ReadsFrame (take (length window - (at + 1)) (drop (at + 1) window)) is_end k old new x) is read)

@@ -1,25 +1,24 @@
 -- What a file is, by its first bytes and its frames.
-use Rattle.std.proofs.Common.{◌≡◌, ℕ, ◌+◌, ◌-◌, ◌≤◌, true, false, List, length, take, drop, Option, Some, None, Result, Err, IsErrOf, refl, sym, ap, subst, ◌∙◌, arith}
+use Rattle.std.proofs.Common.{◌≡◌, ℕ, ◌+◌, ◌-◌, ◌≤◌, true, false, List, length, take, drop, Option, Some, None, Result, Err, IsErrOf, refl, ap, ◌∙◌, arith}
 use Rattle.disk_model.specs.declared.file_id.FileId.{FileId}
 use Rattle.segment_files.specs.declared.descriptor.Descriptor.{Descriptor}
 use Rattle.segment_files.specs.declared.reading.FileFault.{FileFault}
 use Rattle.segment_files.specs.declared.reading.FileFault.TheVariants.{Failed, NoMemory, Damaged as Is_damaged_at}
 use Rattle.segment_files.specs.declared.reading.Contents.TheVariants.{Closed as Is_shut}
-use Rattle.segment_files.specs.declared.reading.Frames.TheVariants.{End}
+use Rattle.segment_files.specs.declared.reading.Frames.TheVariants.{End, Damaged as Are_damaged}
 use Rattle.segment_files.specs.Files.{is_open}
 use Rattle.segment_files.specs.Numbers.{Four, number_at}
-use Rattle.segment_files.specs.Parse.{Numbered, Part, Found, Whole, Walk, Ends, Fails, appended_walk, appended_part, described, descriptor_fields, first_wrong, parse}
-use Rattle.segment_files.specs.Contents.{appended_descriptor, IsDamage, IsFailing, HasFrames, IsContents, IsOpened, IsNoDamage, IsTrueFault, HasFileCause}
+use Rattle.segment_files.specs.Parse.{Numbered, Part, Found, Whole, Damaged, Walk, Ends, Fails, appended_walk, appended_part, described, descriptor_fields, first_wrong, parse}
+use Rattle.segment_files.specs.Contents.{appended_descriptor, HasFrames, IsContents, IsOpened, IsNoDamage, IsTrueFault, HasFileCause}
 use Rattle.segment_files.proofs.Scanning.{good_head}
 
 module _ (id : FileId) (bytes : List ℕ) (is : is_open bytes ≡ true) (right : first_wrong (descriptor_fields id) (take 64 bytes) ≡ None) where
-  bad_part : (w : Walk) → IsFailing w → IsDamage (appended_part id (take 64 bytes) w)
-  bad_part (Ends entries gate) fails = absurd fails
-  bad_part (Fails place) fails = tt
-
   -- frames that aren't right
-  pub bad_frames : IsFailing (appended_walk 0 (id.base - 1) (drop 64 bytes)) → IsDamage (parse id bytes)
-  bad_frames fails = subst (λ (f : Found). IsDamage f) (sym (good_head id bytes is right)) (bad_part (appended_walk 0 (id.base - 1) (drop 64 bytes)) fails)
+  pub bad_frames : (entries : Numbered) (at : ℕ) → HasFrames bytes (id.base - 1) entries (Are_damaged at) → parse id bytes ≡ Damaged at
+  bad_frames entries at fails =
+      good_head id bytes is right
+      ∙ ap (appended_part id (take 64 bytes)) fails.1
+      ∙ ap (λ (k : ℕ). Damaged k) (let le = fails.0 in omega (arith, le))
 
   good_part : (entries : Numbered) (gate : ℕ) → 64 ≤ gate → appended_walk 0 (id.base - 1) (drop 64 bytes) ≡ Ends entries (gate - 64)
       → parse id bytes ≡ Whole (record { id = id; rewritten = false; last = id.base - 1 + length entries; cut = 0; floor = 0; size = number_at Four 56 (take 64 bytes); entries = entries; gate = gate })

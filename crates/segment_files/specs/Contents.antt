@@ -16,6 +16,8 @@ use Rattle.segment_files.specs.declared.reading.Frames.{Frames}
 use Rattle.segment_files.specs.declared.reading.Frames.TheVariants.{End, Damaged as Are_damaged}
 use Rattle.segment_files.specs.declared.windows.Walked.{Walked}
 use Rattle.segment_files.specs.declared.windows.Walked.TheVariants.{Gate, Rest, Damaged as Is_damaged}
+use Rattle.segment_files.specs.declared.windows.EntryRead.{EntryRead}
+use Rattle.segment_files.specs.declared.windows.EntryRead.TheVariants.{Whole as Is_entry, Damaged as Is_no_entry}
 use Rattle.segment_files.specs.declared.windows.FrameRead.{FrameRead}
 use Rattle.segment_files.specs.declared.windows.FrameRead.TheVariants.{Whole as Is_whole, Cut as Is_cut, Damaged as Is_no_frame}
 use Rattle.segment_files.specs.declared.reading.Part.{Part as Scanned}
@@ -23,10 +25,9 @@ use Rattle.segment_files.specs.declared.reading.Found.{Found as Answer}
 use Rattle.segment_files.specs.declared.reading.Found.TheVariants.{Closed as Is_closed, Part as Is_part}
 use Rattle.segment_files.specs.Files.{is_open}
 use Rattle.entry_codec.specs.Spelled.{IsInRange, EntryFits, spelled}
-use Rattle.entry_codec.specs.Reading.{Spells, spelling}
 use Rattle.segment_files.specs.Numbers.{Four, number_at}
 use Rattle.host_types.specs.Limits.{last_limit}
-use Rattle.segment_files.specs.Parse.{Numbered, Body, Holds, Breaks, first_of, body, Part, Found, Closed, Whole, Damaged, Frame, Framed, Crooked, frame, is_next, frame_room, Walk, Ends, Fails, appended_walk, mark, descriptor_fields, first_wrong, parse}
+use Rattle.segment_files.specs.Parse.{Numbered, Body, Holds, Breaks, with_entry, first_of, body, Part, Found, Closed, Whole, Damaged, Framed, Crooked, frame, is_next, frame_room, Walk, Ends, Fails, appended_walk, mark, descriptor_fields, first_wrong, parse}
 
 -- the descriptor of an appended file
 abbrev pub appended_descriptor : FileId → ℕ → Descriptor
@@ -105,11 +106,6 @@ abbrev pub HandsOver : ℕ → Answer → Numbered → Numbered → Type 0
 HandsOver base Is_closed old new = new ≡ old
 HandsOver base (Is_part part) old new = AreNumbered (base - 1) new × (length new ≡ part.entries)
 
-abbrev pub IsDamage : Found → Type 0
-IsDamage Closed = ⊥
-IsDamage (Whole part) = ⊥
-IsDamage (Damaged place) = Unit {0}
-
 -- `Failed` is told only where the disk has failed since
 pub record HasFileCause {T : Type 0} (before now : ℕ) (result : Result T FileFault) : Type 0 where
   pub later : before ≤ now
@@ -117,43 +113,40 @@ pub record HasFileCause {T : Type 0} (before now : ℕ) (result : Result T FileF
 
 -- THE READING OF FRAMES, from a gate on. What is said of a window is so whatever stands behind it.
 
-abbrev pub IsCrooked : Frame → Type 0
-IsCrooked (Framed entries size) = ⊥
-IsCrooked (Crooked place) = Unit {0}
+-- the entry that follows was read, with its size; or a body that begins with these bytes breaks at this place
+abbrev pub ReadsNext : List ℕ → ℕ → Numbered → Numbered → EntryRead → Type 0
+ReadsNext bytes before old new (Is_entry size) =
+    (entry : Entry)
+    × ((rest : ℕ → ℕ → Body) → first_of is_next before bytes rest ≡ with_entry (before + 1) entry size (rest (before + 1) size))
+    × (before + 1 ≤ last_limit) × (new ≡ old ++ (before + 1, entry) ∷ []) × (1 ≤ size) × (size ≤ length bytes)
+ReadsNext bytes before old new (Is_no_entry at) = ((rest : ℕ → ℕ → Body) → first_of is_next before bytes rest ≡ Breaks at) × (new ≡ old) × (at ≤ length bytes)
 
-abbrev pub IsFailing : Walk → Type 0
-IsFailing (Ends entries gate) = ⊥
-IsFailing (Fails place) = Unit {0}
+abbrev pub IsBodyRead : List ℕ → ℕ → Numbered → Option ℕ → Type 0
+IsBodyRead bytes before more None = body is_next frame_room before bytes ≡ Holds more
+IsBodyRead bytes before more (Some at) = (body is_next frame_room before bytes ≡ Breaks at) × (at ≤ length bytes)
 
--- Of a body that breaks nothing is said but that it does.
-abbrev pub IsBroken : Body → Type 0
-IsBroken (Holds entries) = ⊥
-IsBroken (Breaks place) = Unit {0}
-
--- the entry that follows was read, with its size; or none follows
-abbrev pub ReadsNext : List ℕ → ℕ → Numbered → Numbered → Option ℕ → Type 0
-ReadsNext bytes before old new (Some size) =
-    (entry : Entry) × (spelling bytes ≡ Spells (before + 1) entry size) × (is_next before (before + 1) entry ≡ true) × (new ≡ old ++ (before + 1, entry) ∷ []) × (1 ≤ size) × (size ≤ length bytes)
-ReadsNext bytes before old new None = ((rest : ℕ → ℕ → Body) → IsBroken (first_of is_next before (spelling bytes) rest)) × (new ≡ old)
-
--- a body was read, and these are its entries; or it breaks
-pub record ReadsBody (bytes : List ℕ) (before : ℕ) (old new : Numbered) (whole : Bool) : Type 0 where
+-- a body was read, and these are its entries; or it breaks at this place
+pub record ReadsBody (bytes : List ℕ) (before : ℕ) (old new : Numbered) (damage : Option ℕ) : Type 0 where
   pub more : Numbered
   pub items : new ≡ old ++ more
-  pub holds : IsTrue whole → body is_next frame_room before bytes ≡ Holds more
-  pub breaks : whole ≡ false → IsBroken (body is_next frame_room before bytes)
+  pub is : IsBodyRead bytes before more damage
 
--- what stands behind an open gate is a frame of this size, whatever follows it; or too little of it is there; or it is no frame
-abbrev pub IsFrameRead : List ℕ → ℕ → Numbered → FrameRead → Type 0
-IsFrameRead behind before more (Is_whole size) =
+-- what may follow bytes: nothing where the file ends there
+abbrev pub MayFollow : Bool → List ℕ → Type 0
+MayFollow is_end rest = is_end ≡ true → rest ≡ []
+
+-- what stands behind an open gate is a frame of this size, whatever follows it; or too little of it is there; or it is damaged at this place
+abbrev pub IsFrameRead : List ℕ → Bool → ℕ → Numbered → FrameRead → Type 0
+IsFrameRead behind is_end before more (Is_whole size) =
     ((rest : List ℕ) → frame is_next frame_room before (behind ++ rest) ≡ Framed more size) × (size ≤ length behind) × (size + 1 ≤ frame_limit) × (1 ≤ length more)
-IsFrameRead behind before more Is_cut = (more ≡ []) × IsCrooked (frame is_next frame_room before behind)
-IsFrameRead behind before more Is_no_frame = (rest : List ℕ) → IsCrooked (frame is_next frame_room before (behind ++ rest))
+IsFrameRead behind is_end before more Is_cut = (more ≡ []) × (is_end ≡ false)
+IsFrameRead behind is_end before more (Is_no_frame at) =
+    ((rest : List ℕ) → MayFollow is_end rest → frame is_next frame_room before (behind ++ rest) ≡ Crooked at) × (at ≤ length behind)
 
-pub record ReadsFrame (behind : List ℕ) (before : ℕ) (old new : Numbered) (read : FrameRead) : Type 0 where
+pub record ReadsFrame (behind : List ℕ) (is_end : Bool) (before : ℕ) (old new : Numbered) (read : FrameRead) : Type 0 where
   pub more : Numbered
   pub items : new ≡ old ++ more
-  pub is : IsFrameRead behind before more read
+  pub is : IsFrameRead behind is_end before more read
 
 -- entries ahead of a walk, and how many bytes they take
 abbrev pub extended : Numbered → ℕ → Walk → Walk
@@ -164,47 +157,48 @@ extended entries gate (Fails at) = Fails (gate + at)
 abbrev pub IsWalked : List ℕ → ℕ → Numbered → Walked → Type 0
 IsWalked bytes before more (Gate at) = appended_walk 0 before bytes ≡ Ends more at
 IsWalked bytes before more (Rest at) = appended_walk 0 before bytes ≡ extended more at (appended_walk 0 (before + length more) (drop at bytes))
-IsWalked bytes before more Is_damaged = IsFailing (appended_walk 0 before bytes)
+IsWalked bytes before more (Is_damaged at) = appended_walk 0 before bytes ≡ Fails at
 
 -- a place that was come to is within so many bytes
 abbrev pub IsWithin : ℕ → Walked → Type 0
 IsWithin size (Gate at) = at ≤ size
 IsWithin size (Rest at) = at ≤ size
-IsWithin size Is_damaged = Unit {0}
+IsWithin size (Is_damaged at) = at ≤ size
 
 -- a place that was come to lies behind the frames of the new entries
 abbrev pub IsMeasured : ℕ → ℕ → Walked → Type 0
 IsMeasured old new (Gate at) = at + frame_limit * old ≤ frame_limit * new
 IsMeasured old new (Rest at) = at + frame_limit * old ≤ frame_limit * new
-IsMeasured old new Is_damaged = Unit {0}
+IsMeasured old new (Is_damaged at) = Unit {0}
 
--- where nothing was read, these bytes alone are no frame
-abbrev pub IsStuck : List ℕ → ℕ → Walked → Type 0
-IsStuck bytes before walked = walked ≡ Rest 0 → IsFailing (appended_walk 0 before bytes)
+-- where the file ends with so many bytes, no rest is left of them
+abbrev pub HasNoRest : ℕ → Bool → Walked → Type 0
+HasNoRest size is_end (Gate at) = Unit {0}
+HasNoRest size is_end (Rest at) = is_end ≡ true → size ≤ at
+HasNoRest size is_end (Is_damaged at) = Unit {0}
 
-pub record ReadsWindow (window : List ℕ) (before : ℕ) (old new : Numbered) (walked : Walked) : Type 0 where
+pub record ReadsWindow (window : List ℕ) (is_end : Bool) (before : ℕ) (old new : Numbered) (walked : Walked) : Type 0 where
   pub more : Numbered
   pub items : new ≡ old ++ more
   pub within : IsWithin (length window) walked
-  pub walk : (rest : List ℕ) → IsWalked (window ++ rest) before more walked
-  pub stuck : IsStuck window before walked
+  pub walk : (rest : List ℕ) → MayFollow is_end rest → IsWalked (window ++ rest) before more walked
+  pub all : HasNoRest (length window) is_end walked
 
--- the same of a piece of these bytes, which are all that is left of a file, where so many were read at most
-pub record ReadsPiece (bytes : List ℕ) (most before : ℕ) (old new : Numbered) (walked : Walked) : Type 0 where
+-- the same of a piece of these bytes, which are all that is left of a file
+pub record ReadsPiece (bytes : List ℕ) (before : ℕ) (old new : Numbered) (walked : Walked) : Type 0 where
   pub more : Numbered
   pub items : new ≡ old ++ more
   pub walk : IsWalked bytes before more walked
-  pub stuck : length bytes ≤ most → IsStuck bytes before walked
 
--- these are the frames of a file
+-- these are the frames of a file; or they fail at this place
 abbrev pub HasFrames : List ℕ → ℕ → Numbered → Frames → Type 0
 HasFrames bytes before entries (End gate) = (64 ≤ gate) × (appended_walk 0 before (drop 64 bytes) ≡ Ends entries (gate - 64))
-HasFrames bytes before entries Are_damaged = IsFailing (appended_walk 0 before (drop 64 bytes))
+HasFrames bytes before entries (Are_damaged at) = (64 ≤ at) × (appended_walk 0 before (drop 64 bytes) ≡ Fails (at - 64))
 
 -- the gate stands behind the frames of so many entries
 abbrev pub IsLong : ℕ → Frames → Type 0
 IsLong count (End gate) = gate ≤ 64 + frame_limit * count
-IsLong count Are_damaged = Unit {0}
+IsLong count (Are_damaged at) = Unit {0}
 
 -- THE READING OF A FILE
 
@@ -213,11 +207,11 @@ abbrev pub file_fault : DiskFault → FileFault
 file_fault Disk_failed = Failed
 file_fault Disk_no_memory = NoMemory
 
--- a fault that says that a file is damaged is right
+-- a fault that says that a file is damaged is right, with its place
 abbrev pub IsTrueFault : Found → FileFault → Type 0
 IsTrueFault found Failed = Unit {0}
 IsTrueFault found NoMemory = Unit {0}
-IsTrueFault found (Is_damaged_at at) = (at ≡ 0) × IsDamage found
+IsTrueFault found (Is_damaged_at at) = found ≡ Damaged at
 
 -- a fault that says nothing of the file
 abbrev pub IsNoDamage : FileFault → Type 0

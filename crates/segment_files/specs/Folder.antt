@@ -5,7 +5,7 @@ use Rattle.host_types.specs.declared.entry.Entry.{Entry}
 use Rattle.disk_model.specs.declared.file_id.FileId.{FileId}
 use Rattle.disk_model.specs.Image.{Image, IsBelow, place}
 use Rattle.disk_model.specs.View.{View, MayLeave}
-use Rattle.segment_files.specs.Parse.{Numbered, Part, Found, Closed, Whole, Damaged, parse}
+use Rattle.segment_files.specs.Parse.{Numbered, Part, Found, Closed, Whole, Damaged, base_place, parse}
 
 -- what the files of one name are
 abbrev pub Folder : Type 0
@@ -46,24 +46,26 @@ pub record Stands (files : Folder) (log : List Entry) : Type 0 where
   pub choice : IsChoice files parts
   pub are : AreOf parts log
 
--- A FAULT. A file counts as damaged where it is damaged in itself, or where it is a second one with an open gate.
+-- A FAULT, at its place in a file. A file counts as damaged where it is damaged in itself; or at its base, where it is right in itself
+-- and a second one with an open gate.
 
 abbrev pub HasOpen : Folder → FileId → Type 0
 HasOpen files id = files id ≢ Closed
 
 pub record IsSecond (files : Folder) (id : FileId) : Type 0 where
-  pub is_open : HasOpen files id
+  pub part : Part
+  pub whole : files id ≡ Whole part
   pub first : FileId
   pub first_open : HasOpen files first
   pub below : IsBelow first id
 
-abbrev pub IsDamaged : Folder → FileId → Type 0
-IsDamaged files id = ((at : ℕ) × (files id ≡ Damaged at)) ⊎ IsSecond files id
+abbrev pub IsDamagedAt : Folder → FileId → ℕ → Type 0
+IsDamagedAt files id at = (files id ≡ Damaged at) ⊎ (IsSecond files id × (at ≡ base_place))
 
 -- the first file that counts as damaged
-pub record IsFirstDamaged (files : Folder) (id : FileId) : Type 0 where
-  pub damaged : IsDamaged files id
-  pub first : (other : FileId) → IsBelow other id → IsDamaged files other → ⊥
+pub record IsFirstDamaged (files : Folder) (id : FileId) (at : ℕ) : Type 0 where
+  pub damaged : IsDamagedAt files id at
+  pub first : (other : FileId) (place : ℕ) → IsBelow other id → IsDamagedAt files other place → ⊥
 
 -- no file counts as damaged, and the one part doesn't begin with the first entry
 pub record IsUnbased (files : Folder) (id : FileId) : Type 0 where
@@ -72,9 +74,9 @@ pub record IsUnbased (files : Folder) (id : FileId) : Type 0 where
   pub id_is : part.id ≡ id
   pub unbased : part.id.base ≢ 1
 
--- the file that a folder is damaged in
-abbrev pub IsFault : Folder → FileId → Type 0
-IsFault files id = IsFirstDamaged files id ⊎ IsUnbased files id
+-- the file that a folder is damaged in, and where
+abbrev pub IsFault : Folder → FileId → ℕ → Type 0
+IsFault files id at = IsFirstDamaged files id at ⊎ (IsUnbased files id × (at ≡ base_place))
 
 -- IN ORDER: whatever a crash leaves stands for a prefix of the log.
 

@@ -6,7 +6,9 @@ use Rattle.disk_model.specs.declared.file_id.FileId.{FileId}
 use Rattle.segment_files.specs.Files.{is_open}
 use Rattle.host_types.specs.Limits.{last_limit}
 use Rattle.entry_codec.specs.Reading.{Spelling, Spells, Spoils, spelling}
-use Rattle.segment_files.specs.Numbers.{Size, One, Four, Eight, bytes_of, number_at}
+use Rattle.segment_files.specs.declared.numbers.Size.{Size}
+use Rattle.segment_files.specs.declared.descriptor.Field.{Field}
+use Rattle.segment_files.specs.Numbers.{One, Four, Eight, bytes_of, number_at}
 
 -- entries with their indexes
 abbrev pub Numbered : Type 0
@@ -22,20 +24,28 @@ abbrev pub with_entry : ℕ → Entry → ℕ → Body → Body
 with_entry index entry size (Holds entries) = Holds ((index, entry) ∷ entries)
 with_entry index entry size (Breaks place) = Breaks (size + place)
 
--- which entry may stand behind an index that is given
+-- which index may stand behind one that is given
 abbrev pub Follows : Type 0
-Follows = ℕ → ℕ → Entry → Bool
+Follows = ℕ → ℕ → Bool
 
-abbrev pub first_of : Follows → ℕ → Spelling → (ℕ → ℕ → Body) → Body
-first_of follows before (Spoils place) rest = Breaks place
-first_of follows before (Spells index entry size) rest = if follows before index entry then with_entry index entry size (rest index size) else Breaks 0
+-- the index that bytes begin with is whole, and may not stand there
+abbrev pub is_misplaced : Follows → ℕ → List ℕ → Bool
+is_misplaced follows before bytes = nat_le 8 (length bytes) && not (follows before (number_at Eight 0 bytes))
+
+abbrev pub spelled_first : Spelling → (ℕ → ℕ → Body) → Body
+spelled_first (Spoils place) rest = Breaks place
+spelled_first (Spells index entry size) rest = with_entry index entry size (rest index size)
+
+-- An entry's index is looked at before its other fields.
+abbrev pub first_of : Follows → ℕ → List ℕ → (ℕ → ℕ → Body) → Body
+first_of follows before bytes rest = if is_misplaced follows before bytes then Breaks 0 else spelled_first (spelling bytes) rest
 
 -- the entries of a body, where so many more may stand in it
 unfoldable pub body : Follows → ℕ → ℕ → List ℕ → Body
 body follows zero before [] = Holds []
 body follows zero before (b ∷ bytes) = Breaks 0
 body follows (suc room) before [] = Holds []
-body follows (suc room) before (b ∷ bytes) = first_of follows before (spelling (b ∷ bytes)) (λ index size. body follows room index (drop size (b ∷ bytes)))
+body follows (suc room) before (b ∷ bytes) = first_of follows before (b ∷ bytes) (λ index size. body follows room index (drop size (b ∷ bytes)))
 
 pub data Frame : Type 0 where
   -- its entries, and its length behind the gate
@@ -84,7 +94,7 @@ frame_room = 64
 
 -- each index is the one after
 abbrev pub is_next : Follows
-is_next before index entry = nat_eq index (before + 1) && nat_le index last_limit
+is_next before index = nat_eq index (before + 1) && nat_le index last_limit
 
 -- So many bytes are passed first: those of the frame before. The recursion is on the bytes.
 unfoldable pub appended_walk : ℕ → ℕ → List ℕ → Walk
@@ -94,45 +104,48 @@ appended_walk zero before (gate ∷ bytes) =
     if nat_eq gate 1 then go_on (frame is_next frame_room before bytes) (λ entries size. appended_walk size (before + length entries) bytes)
     else Ends [] 0
 
--- THE DESCRIPTOR: its fields in order, each with the test of its number.
+-- THE DESCRIPTOR: its fields in order, each with the numbers that it may have.
 
-pub record Field : Type 0 where
-  pub at : ℕ
-  pub size : Size
-  pub is_right : ℕ → Bool
+abbrev pub is_right : Field → ℕ → Bool
+is_right f n = nat_le f.least n && nat_le n f.most
 
--- the place of the first field that isn't right, or the end where it isn't whole
-abbrev pub first_wrong : List Field → List ℕ → Option ℕ
-first_wrong [] bytes = None
-first_wrong (f ∷ fields) bytes =
+-- the place of a field that isn't right, or the end where it isn't whole
+abbrev pub wrong_at : Field → List ℕ → Option ℕ
+wrong_at f bytes =
     if nat_lt (length bytes) (f.at + bytes_of f.size) then Some (length bytes)
-    else if f.is_right (number_at f.size f.at bytes) then first_wrong fields bytes
+    else if is_right f (number_at f.size f.at bytes) then None
     else Some f.at
 
-abbrev pub is_number : ℕ → ℕ → Bool
-is_number is n = nat_eq n is
+-- the first such place
+abbrev pub first_wrong : List Field → List ℕ → Option ℕ
+first_wrong [] bytes = None
+first_wrong (f ∷ fields) bytes = elim (wrong_at f bytes) [ None ↦ first_wrong fields bytes | Some at ↦ Some at ]
 
-abbrev pub is_size : ℕ → Bool
-is_size n = nat_le 2 n && nat_le n 65536
+abbrev pub exactly : ℕ → Size → ℕ → Field
+exactly at size n = record { at = at; size = size; least = n; most = n }
 
 -- `CCLG`
 abbrev pub mark : ℕ
 mark = 1128483911
 
+-- where the base stands
+abbrev pub base_place : ℕ
+base_place = 16
+
 unfoldable pub descriptor_fields : FileId → List Field
 descriptor_fields id =
-    record { at = 1; size = One; is_right = is_number 1 }
-    ∷ record { at = 2; size = One; is_right = is_number 0 }
-    ∷ record { at = 3; size = One; is_right = is_number 0 }
-    ∷ record { at = 4; size = Four; is_right = is_number mark }
-    ∷ record { at = 8; size = Eight; is_right = is_number id.generation }
-    ∷ record { at = 16; size = Eight; is_right = is_number id.base }
-    ∷ record { at = 24; size = Eight; is_right = is_number 0 }
-    ∷ record { at = 32; size = Eight; is_right = is_number 0 }
-    ∷ record { at = 40; size = Eight; is_right = is_number 0 }
-    ∷ record { at = 48; size = Eight; is_right = is_number 0 }
-    ∷ record { at = 56; size = Four; is_right = is_size }
-    ∷ record { at = 60; size = Four; is_right = is_number 0 }
+    exactly 1 One 1
+    ∷ exactly 2 One 0
+    ∷ exactly 3 One 0
+    ∷ exactly 4 Four mark
+    ∷ exactly 8 Eight id.generation
+    ∷ exactly base_place Eight id.base
+    ∷ exactly 24 Eight 0
+    ∷ exactly 32 Eight 0
+    ∷ exactly 40 Eight 0
+    ∷ exactly 48 Eight 0
+    ∷ record { at = 56; size = Four; least = 2; most = 65536 }
+    ∷ exactly 60 Four 0
     ∷ []
 
 -- A PART of a log, as one file has it.

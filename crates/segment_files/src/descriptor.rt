@@ -1,16 +1,16 @@
 // The first 64 bytes of a file.
-ghost use Rattle.std.specs.Prelude.{◌≡◌, ◌+◌, ◌≤◌, ◌&&◌, ℕ, nat_eq, length, slice_index, IfSome, IfNone};
+ghost use Rattle.std.specs.Prelude.{◌≡◌, ◌+◌, ◌≤◌, length, Some, None, IfOk, IfErr};
 ghost use Rattle.disk_model.specs.Image.{written};
-ghost use Rattle.segment_files.specs.Parse.{descriptor_fields, first_wrong, mark};
-ghost use Rattle.segment_files.specs.Numbers.{Four, Eight, number_at};
+ghost use Rattle.segment_files.specs.Parse.{descriptor_fields, exactly, first_wrong, is_right, wrong_at};
+ghost use Rattle.segment_files.specs.Numbers.{number_at};
 ghost use Rattle.segment_files.specs.Contents.{appended_descriptor, descriptor_bytes};
 
-use crate::numbers::{u32_at, u64_at};
+use crate::numbers::{Size, number_in, u32_at};
 use disk_model::FileId;
 use host_types::Index;
 
 /// `CCLG`
-const MARK: u32 = 0x43434c47;
+const MARK: u64 = 0x43434c47;
 
 /// The first bytes of a file whose gate is open say what it holds (docs/format.md).
 #[derive(Clone, Copy, Debug, PartialEq, Eq)]
@@ -40,30 +40,85 @@ pub(crate) fn put(bytes: &mut [u8], at: usize, part: &[u8])
     bytes[at..at + part.len()].copy_from_slice(part);
 }
 
-/// Whether these bytes are of a file of this format that is appended to.
-fn is_marked(head: &[u8]) -> bool
-    requires { length head.now ≡ 64 }
-    ensures { result ≡ (nat_eq (slice_index head.now 1) 1 && nat_eq (slice_index head.now 2) 0
-        && nat_eq (slice_index head.now 3) 0 && nat_eq (number_at Four 4 head.now) mark) }
-{
-    head[1] == 1 && head[2] == 0 && head[3] == 0 && u32_at(head, 4) == MARK
+/// A field of a descriptor, with the numbers that it may have.
+#[derive(Clone, Copy, Debug, PartialEq, Eq)]
+struct Field {
+    at: usize,
+    size: Size,
+    least: u64,
+    most: u64,
 }
 
-/// Whether these bytes are of the file with this id.
-fn is_of(id: FileId, head: &[u8]) -> bool
-    requires { length head.now ≡ 64 }
-    ensures { result ≡ (nat_eq (number_at Eight 8 head.now) id.generation && nat_eq (number_at Eight 16 head.now) id.base) }
-{
-    u64_at(head, 8) == id.generation && u64_at(head, 16) == id.base
+impl Field {
+    /// A field that has this number alone.
+    fn exactly(at: usize, size: Size, number: u64) -> Field
+        ensures { result ≡ exactly at size number }
+    {
+        Field {
+            at,
+            size,
+            least: number,
+            most: number,
+        }
+    }
+
+    /// Whether it may have this number.
+    fn is_right(&self, number: u64) -> bool
+        ensures { result ≡ is_right self.now number }
+    {
+        self.least <= number && number <= self.most
+    }
+
+    /// Where these bytes are damaged by this field: at its start where it isn't right, and at their end where it isn't whole.
+    fn wrong_in(&self, head: &[u8]) -> Option<usize>
+        ensures { result ≡ wrong_at self.now head.now }
+    {
+        if head.len().saturating_sub(self.at) < self.size.bytes() {
+            return Some(head.len());
+        }
+        if self.is_right(number_in(head, self.at, self.size)) {
+            None
+        } else {
+            Some(self.at)
+        }
+    }
 }
 
-/// Whether what only a compaction writes is zero.
-fn is_plain(head: &[u8]) -> bool
-    requires { length head.now ≡ 64 }
-    ensures { result ≡ (nat_eq (number_at Eight 24 head.now) 0 && nat_eq (number_at Eight 32 head.now) 0
-        && nat_eq (number_at Eight 40 head.now) 0 && nat_eq (number_at Eight 48 head.now) 0) }
+/// The fields behind the gate of a file with this id that is appended to, in their order.
+fn fields_of(id: FileId) -> [Field; 12]
+    ensures { result ≡ descriptor_fields id }
 {
-    u64_at(head, 24) == 0 && u64_at(head, 32) == 0 && u64_at(head, 40) == 0 && u64_at(head, 48) == 0
+    [
+        Field::exactly(1, Size::One, 1),
+        Field::exactly(2, Size::One, 0),
+        Field::exactly(3, Size::One, 0),
+        Field::exactly(4, Size::Four, MARK),
+        Field::exactly(8, Size::Eight, id.generation),
+        Field::exactly(16, Size::Eight, id.base),
+        Field::exactly(24, Size::Eight, 0),
+        Field::exactly(32, Size::Eight, 0),
+        Field::exactly(40, Size::Eight, 0),
+        Field::exactly(48, Size::Eight, 0),
+        Field {
+            at: 56,
+            size: Size::Four,
+            least: 2,
+            most: 65536,
+        },
+        Field::exactly(60, Size::Four, 0),
+    ]
+}
+
+/// Where these bytes are damaged by the first of these fields that is wrong.
+fn first_wrong_of(fields: &[Field], head: &[u8]) -> Option<usize>
+    ensures { result ≡ first_wrong fields.now head.now }
+{
+    for field in fields {
+        if let Some(at) = field.wrong_in(head) {
+            return Some(at);
+        }
+    }
+    None
 }
 
 impl Descriptor {
@@ -103,20 +158,16 @@ impl Descriptor {
         bytes
     }
 
-    /// The descriptor that these bytes are of this file, which is appended to, if each field is right.
-    pub(crate) fn read(id: FileId, head: &[u8]) -> Option<Descriptor>
-        requires { length head.now ≡ 64 }
-        ensures fields { IfSome result (λ descriptor. descriptor ≡ appended_descriptor id (number_at Four 56 head.now)) }
-        ensures right { IfSome result (λ descriptor. first_wrong (descriptor_fields id) head.now ≡ None) }
-        ensures wrong { IfNone result ((at : ℕ) × (first_wrong (descriptor_fields id) head.now ≡ Some at)) }
+    /// The descriptor that a file of this id begins with, which is appended to; or the place where these first bytes of it are
+    /// damaged. The gate isn't looked at.
+    pub(crate) fn read(id: FileId, head: &[u8]) -> Result<Descriptor, usize>
+        ensures fields { IfOk result (λ descriptor. descriptor ≡ appended_descriptor id (number_at Size.Four 56 head.now)) }
+        ensures right { IfOk result (λ descriptor. first_wrong (descriptor_fields id) head.now ≡ None) }
+        ensures wrong { IfErr result (λ at. first_wrong (descriptor_fields id) head.now ≡ Some at) }
     {
-        let size = u32_at(head, 56);
-        if !is_marked(head) || !is_of(id, head) || !is_plain(head) {
-            return None;
+        match first_wrong_of(&fields_of(id), head) {
+            Some(at) => Err(at),
+            None => Ok(Descriptor::appended(id, u32_at(head, 56))),
         }
-        if size < 2 || size > 65536 || u32_at(head, 60) != 0 {
-            return None;
-        }
-        Some(Descriptor::appended(id, size))
     }
 }

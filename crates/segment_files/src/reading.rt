@@ -4,9 +4,9 @@ ghost use Rattle.disk_model.specs.Image.{IsFileId, place};
 ghost use Rattle.disk_model.specs.View.{LeavesAt, MayHold, Reads, IsListed};
 ghost use Rattle.disk_model.specs.Calls.{Looks, Stays};
 ghost use Rattle.host_types.specs.Limits.{last_limit};
-ghost use Rattle.segment_files.specs.Parse.{parse};
+ghost use Rattle.segment_files.specs.Parse.{Damaged, parse};
 ghost use Rattle.segment_files.specs.declared.reading.FileFault.TheVariants.{NoMemory};
-ghost use Rattle.segment_files.specs.Contents.{AreNumbered, AreRead, HandsOver, HasNumbered, HasFew, IsBounded, IsLong, IsMeasured, HasFileCause, HasFrames, IsDamage, IsFound, IsHead, IsRead, IsNoDamage, IsWithin, ReadsPiece, file_fault};
+ghost use Rattle.segment_files.specs.Contents.{AreNumbered, AreRead, HandsOver, HasNumbered, HasFew, IsBounded, IsLong, IsMeasured, HasFileCause, HasFrames, IsFound, IsHead, IsRead, IsNoDamage, IsWithin, ReadsPiece, file_fault};
 
 use crate::descriptor::Descriptor;
 use crate::windows::{Walked, read_window};
@@ -19,7 +19,7 @@ use std::alloc::{AllocError, Global};
 pub enum FileFault {
     /// The disk failed.
     Failed,
-    /// The file's gate is open, and what it holds isn't right. The place is 0 for now, wherever it is.
+    /// The file's gate is open, and what it holds isn't right from this place on (`docs/format.md`).
     Damaged { at: u64 },
     /// No memory was left.
     NoMemory,
@@ -61,7 +61,8 @@ enum Contents {
 enum Frames {
     /// They end at this place, before a gate that isn't open.
     End { gate: u64 },
-    Damaged,
+    /// They aren't right at this place.
+    Damaged { at: u64 },
 }
 
 /// How many bytes are read at once, unless a frame is longer.
@@ -111,17 +112,14 @@ fn read_head<D: Disk>(
     if count < 2 || head[0] != 1 {
         return Ok(None);
     }
-    if count < Descriptor::LENGTH {
-        return Err(FileFault::Damaged { at: 0 });
-    }
-    match Descriptor::read(id, &head) {
-        Some(descriptor) => Ok(Some(descriptor)),
-        None => Err(FileFault::Damaged { at: 0 }),
+    match Descriptor::read(id, &head[..count]) {
+        Ok(descriptor) => Ok(Some(descriptor)),
+        Err(at) => Err(FileFault::Damaged { at: at as u64 }),
     }
 }
 
 /// Reads the next piece of a file, which ends at `end`, from the gate at `at` on. A piece that comes shorter than it was
-/// asked for is damaged.
+/// asked for is damaged where it ends.
 fn read_piece<D: Disk>(
     alloc: Global,
     disk: &mut D,
@@ -136,14 +134,16 @@ fn read_piece<D: Disk>(
     requires listed { IsTrue D.tells → IsListed (D.view disk.old) (place name.now id) }
     requires within { at < end }
     requires end { IsTrue D.tells → (bytes : List ℕ) → Reads (D.view disk.old) (place name.now id) bytes → end ≡ length bytes }
+    requires buffer { 1 ≤ length buffer.old }
     requires few { length entries.old.items ≤ last_limit }
     ensures few { IfOk result (λ walked. length entries.new.items ≤ last_limit) }
     ensures within { IfOk result (IsWithin (end - at)) }
+    ensures longer { IfOk result (λ walked. walked ≡ Walked.Rest 0 → length buffer.old < end - at) }
     ensures measured { IfOk result (IsMeasured (length entries.old.items) (length entries.new.items)) }
     ensures numbered { AreNumbered (id.base - 1) entries.old.items → IfOk result (λ _. AreNumbered (id.base - 1) entries.new.items) }
     ensures no_damage { IfErr result IsNoDamage }
     ensures reads { IsTrue D.tells → (bytes : List ℕ) → Reads (D.view disk.old) (place name.now id) bytes
-        → IfOk result (ReadsPiece (drop at bytes) (length buffer.old) (id.base - 1 + length entries.old.items) entries.old.items entries.new.items) }
+        → IfOk result (ReadsPiece (drop at bytes) (id.base - 1 + length entries.old.items) entries.old.items entries.new.items) }
     ensures told { IsTrue D.tells → Looks (D.view disk.old) (D.view disk.new) }
     ensures cause { HasFileCause (D.faults disk.old) (D.faults disk.new) result }
 {
@@ -151,9 +151,9 @@ fn read_piece<D: Disk>(
     let window = &mut buffer[..want];
     let count = disk.read(name, id, at, window)?;
     if count < want {
-        return Ok(Walked::Damaged);
+        return Ok(Walked::Damaged { at: count });
     }
-    let walked = read_window(alloc, id.base, window, entries)?;
+    let walked = read_window(alloc, id.base, window, want as u64 == end - at, entries)?;
     Ok(walked)
 }
 
@@ -200,19 +200,21 @@ fn read_frames<D: Disk>(
                     gate: at + behind as u64,
                 });
             }
-            Walked::Damaged => return Ok(Frames::Damaged),
+            Walked::Damaged { at: behind } => {
+                return Ok(Frames::Damaged {
+                    at: at + behind as u64,
+                });
+            }
             Walked::Rest { at: behind } => {
                 if behind > 0 {
                     at += behind as u64;
-                } else if end - at > buffer.len() as u64 {
-                    lengthen(buffer, end - at)?;
                 } else {
-                    return Ok(Frames::Damaged);
+                    lengthen(buffer, end - at)?;
                 }
             }
         }
     }
-    Ok(Frames::Damaged)
+    Ok(Frames::Damaged { at })
 }
 
 /// Reads what stands behind the first bytes of a file, which are this descriptor.
@@ -236,7 +238,7 @@ fn read_part<D: Disk>(
     let mut buffer = vec![in alloc; 0u8; PIECE]?;
     let mut entries = Vec::new(alloc);
     match read_frames(alloc, disk, name, id, end, &mut buffer, &mut entries)? {
-        Frames::Damaged => Err(FileFault::Damaged { at: 0 }),
+        Frames::Damaged { at } => Err(FileFault::Damaged { at }),
         Frames::End { gate } => Ok(Contents::Open {
             descriptor,
             entries,
@@ -284,7 +286,7 @@ pub fn scan<D: Disk>(
     // Each entry is as one may be, whatever the disk tells.
     ensures handed { IfOk result (λ found. HandsOver id.base found entries.old.items entries.new.items) }
     ensures damaged { IsTrue D.tells → (bytes : List ℕ) → Reads (D.view disk.old) (place name.now id) bytes
-        → (at : ℕ) → IsErrOf result (FileFault.Damaged at) → (at ≡ 0) × IsDamage (parse id bytes) }
+        → (at : ℕ) → IsErrOf result (FileFault.Damaged at) → parse id bytes ≡ Damaged at }
     ensures stays { IsTrue D.tells → Stays (D.view disk.old) (D.view disk.new) }
     ensures any_moment { IsTrue D.tells → LeavesAt (D.view disk.old) (D.view disk.new) (MayHold (D.view disk.old)) }
     ensures bounds { IfOk result (IsBounded id) }

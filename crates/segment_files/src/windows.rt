@@ -1,11 +1,12 @@
 // Reads frames: an open gate, a length, and so many bytes of entries.
-ghost use Rattle.std.specs.Prelude.{ℕ, ◌≡◌, ◌++◌, ◌&&◌, nat_eq, nat_le, ◌+◌, ◌-◌, ◌<◌, ◌≤◌, ◌^◌, length, IfOk};
+ghost use Rattle.std.specs.Prelude.{ℕ, ◌≡◌, ◌++◌, ◌&&◌, ◌+◌, ◌-◌, ◌<◌, ◌≤◌, ◌^◌, nat_lt, not, if◌then◌else◌, length, IfOk};
 ghost use Rattle.host_types.specs.Limits.{last_limit};
 ghost use Rattle.disk_model.specs.Image.{id_limit};
+ghost use Rattle.segment_files.specs.Parse.{body_limit, is_misplaced, is_next};
 ghost use Rattle.segment_files.specs.Contents.{AreNumbered, IsMeasured, ReadsBody, ReadsFrame, ReadsNext, ReadsWindow};
 
 use crate::frames::{BODY_LIMIT, FRAME_ROOM};
-use crate::numbers::u32_at;
+use crate::numbers::{u32_at, u64_at};
 use entry_codec::{ReadFault, read};
 use host_types::{Entry, Index, NoMemory};
 use std::alloc::Global;
@@ -23,8 +24,8 @@ pub(crate) enum Walked {
     Gate { at: usize },
     /// To the end, or to a last frame there of which too little is at hand.
     Rest { at: usize },
-    /// To a frame that isn't right.
-    Damaged,
+    /// To a frame that isn't right, which is damaged here.
+    Damaged { at: usize },
 }
 
 /// What stands behind an open gate, as far as it is at hand.
@@ -34,57 +35,70 @@ pub(crate) enum FrameRead {
     Whole { size: usize },
     /// Less than a frame.
     Cut,
-    /// No frame.
-    Damaged,
+    /// No frame: it is damaged here.
+    Damaged { at: usize },
+}
+
+/// What some bytes begin with.
+#[derive(Clone, Copy, Debug, PartialEq, Eq)]
+enum EntryRead {
+    /// The next entry, of so many bytes.
+    Whole { size: usize },
+    /// Another one or none: it is damaged here.
+    Damaged { at: usize },
 }
 
 /// Whether a log may have an entry of this index behind that one.
 fn may_follow(before: Index, index: Index) -> bool
     requires { before + 1 < 2 ^ 64 }
-    ensures { result ≡ (nat_eq index (before + 1) && nat_le index last_limit) }
+    ensures { result ≡ is_next before index }
 {
     index == before + 1 && index <= LAST
 }
 
+/// Whether these bytes begin with a whole index that a log can't have behind that one.
+fn begins_elsewhere(before: Index, bytes: &[u8]) -> bool
+    requires { before + 1 < 2 ^ 64 }
+    ensures { result ≡ is_misplaced is_next before bytes.now }
+{
+    bytes.len() >= 8 && !may_follow(before, u64_at(bytes, 0))
+}
+
 /// Reads the entry that these bytes begin with, and puts it behind the others, where the log may have it behind that index.
-/// Answers how many bytes it takes.
 fn read_next(
     alloc: Global,
     before: Index,
     bytes: &[u8],
     entries: &mut Vec<(Index, Entry)>,
-) -> Result<Option<usize>, NoMemory>
+) -> Result<EntryRead, NoMemory>
     requires { before + 1 < 2 ^ 64 }
     ensures reads { IfOk result (ReadsNext bytes.now before entries.old.items entries.new.items) }
     ensures numbered { (first : ℕ) → before ≡ first + length entries.old.items → AreNumbered first entries.old.items → IfOk result (λ _. AreNumbered first entries.new.items) }
 {
+    if begins_elsewhere(before, bytes) {
+        return Ok(EntryRead::Damaged { at: 0 });
+    }
     let (index, entry, size) = match read(alloc, bytes) {
         Ok(found) => found,
-        Err(ReadFault::Bad { .. }) => return Ok(None),
+        Err(ReadFault::Bad { at }) => return Ok(EntryRead::Damaged { at }),
         Err(ReadFault::NoMemory) => return Err(NoMemory),
     };
-    let count = entries.len();
-    let follows = may_follow(before, index);
     entries.push((index, entry))?;
-    if follows {
-        return Ok(Some(size));
-    }
-    entries.truncate(count);
-    Ok(None)
+    Ok(EntryRead::Whole { size })
 }
 
-/// Reads the entries of a body behind those before it, which end at an index. Answers whether it is entries and nothing
-/// else, each at the next index.
+/// Reads the entries of a body behind those before it, which end at an index. Answers where the body is damaged, unless it is
+/// entries and nothing else, each at the next index.
 fn read_body(
     alloc: Global,
     before: Index,
     body: &[u8],
     entries: &mut Vec<(Index, Entry)>,
-) -> Result<bool, NoMemory>
+) -> Result<Option<usize>, NoMemory>
     requires counted { length entries.old.items ≤ before }
     requires room { before ≤ id_limit + last_limit }
     requires few { length entries.old.items ≤ last_limit }
-    ensures few { IfOk result (λ whole. length entries.new.items ≤ last_limit) }
+    ensures few { IfOk result (λ damage. length entries.new.items ≤ last_limit) }
     ensures reads { IfOk result (ReadsBody body.now before entries.old.items entries.new.items) }
     ensures numbered { (first : ℕ) → before ≡ first + length entries.old.items → AreNumbered first entries.old.items → IfOk result (λ _. AreNumbered first entries.new.items) }
 {
@@ -92,53 +106,87 @@ fn read_body(
     let mut count = 0;
     while at < body.len() {
         if count == FRAME_ROOM {
-            return Ok(false);
+            return Ok(Some(at));
         }
         match read_next(alloc, before + count as u64, &body[at..], entries)? {
-            Some(size) => at += size,
-            None => return Ok(false),
+            EntryRead::Whole { size } => at += size,
+            EntryRead::Damaged { at: place } => return Ok(Some(at + place)),
         }
         count += 1;
     }
-    Ok(true)
+    Ok(None)
 }
 
-/// Reads the frame that stands behind an open gate, behind the entries that end at this index.
+/// Where too little of a frame is at hand: it is damaged at its end where the file ends there, or more has to be read.
+fn cut_frame(long: usize, is_end: bool) -> FrameRead
+    ensures { result ≡ (if is_end then FrameRead.Damaged long else FrameRead.Cut) }
+{
+    if is_end {
+        FrameRead::Damaged { at: long }
+    } else {
+        FrameRead::Cut
+    }
+}
+
+/// Whether more of a body has to be read, of whose bytes so many are at hand.
+fn wants_more(there: usize, size: usize, is_end: bool) -> bool
+    ensures { result ≡ (nat_lt there size && not is_end) }
+{
+    there < size && !is_end
+}
+
+/// What a body of this size is that is entries as far as it is there, where so many bytes are behind the gate.
+fn right_frame(size: usize, long: usize) -> FrameRead
+    requires { size ≤ body_limit }
+    ensures { result ≡ (if nat_lt long (4 + size) then FrameRead.Damaged long else FrameRead.Whole (4 + size)) }
+{
+    if long < 4 + size {
+        FrameRead::Damaged { at: long }
+    } else {
+        FrameRead::Whole { size: 4 + size }
+    }
+}
+
+/// Reads the frame that stands behind an open gate, behind the entries that end at this index. Where the file ends with these
+/// bytes, what is there of a frame is read, and the frame is damaged.
 fn read_frame(
     alloc: Global,
     before: Index,
     behind: &[u8],
+    is_end: bool,
     entries: &mut Vec<(Index, Entry)>,
 ) -> Result<FrameRead, NoMemory>
     requires counted { length entries.old.items ≤ before }
     requires room { before ≤ id_limit + last_limit }
     requires few { length entries.old.items ≤ last_limit }
     ensures few { IfOk result (λ read. length entries.new.items ≤ last_limit) }
-    ensures reads { IfOk result (ReadsFrame behind.now before entries.old.items entries.new.items) }
+    ensures reads { IfOk result (ReadsFrame behind.now is_end before entries.old.items entries.new.items) }
     ensures numbered { (first : ℕ) → before ≡ first + length entries.old.items → AreNumbered first entries.old.items → IfOk result (λ _. AreNumbered first entries.new.items) }
 {
     if behind.len() < 4 {
-        return Ok(FrameRead::Cut);
+        return Ok(cut_frame(behind.len(), is_end));
     }
     let size = u32_at(behind, 0) as usize;
     if size < BODY_LEAST || size > BODY_LIMIT {
-        return Ok(FrameRead::Damaged);
+        return Ok(FrameRead::Damaged { at: 0 });
     }
-    if behind.len() - 4 < size {
+    let there = size.min(behind.len() - 4);
+    if wants_more(there, size, is_end) {
         return Ok(FrameRead::Cut);
     }
-    if read_body(alloc, before, &behind[4..4 + size], entries)? {
-        Ok(FrameRead::Whole { size: 4 + size })
-    } else {
-        Ok(FrameRead::Damaged)
+    match read_body(alloc, before, &behind[4..4 + there], entries)? {
+        Some(at) => Ok(FrameRead::Damaged { at: 4 + at }),
+        None => Ok(right_frame(size, behind.len())),
     }
 }
 
-/// Reads all whole frames of a window, which begins with a gate, behind the entries of the file that are read already.
+/// Reads all whole frames of a window, which begins with a gate, behind the entries of the file that are read already. The
+/// file may end with the window.
 pub(crate) fn read_window(
     alloc: Global,
     base: Index,
     window: &[u8],
+    is_end: bool,
     entries: &mut Vec<(Index, Entry)>,
 ) -> Result<Walked, NoMemory>
     requires base_first { 1 ≤ base }
@@ -146,7 +194,7 @@ pub(crate) fn read_window(
     requires few { length entries.old.items ≤ last_limit }
     ensures few { IfOk result (λ walked. length entries.new.items ≤ last_limit) }
     ensures measured { IfOk result (IsMeasured (length entries.old.items) (length entries.new.items)) }
-    ensures reads { IfOk result (λ walked. ReadsWindow window.now (base - 1 + length entries.old.items) entries.old.items entries.new.items walked) }
+    ensures reads { IfOk result (λ walked. ReadsWindow window.now is_end (base - 1 + length entries.old.items) entries.old.items entries.new.items walked) }
     ensures numbered { AreNumbered (base - 1) entries.old.items → IfOk result (λ _. AreNumbered (base - 1) entries.new.items) }
 {
     let mut at = 0;
@@ -155,10 +203,12 @@ pub(crate) fn read_window(
             return Ok(Walked::Gate { at });
         }
         let before = base - 1 + entries.len() as u64;
-        match read_frame(alloc, before, &window[at + 1..], entries)? {
+        match read_frame(alloc, before, &window[at + 1..], is_end, entries)? {
             FrameRead::Whole { size } => at += 1 + size,
             FrameRead::Cut => return Ok(Walked::Rest { at }),
-            FrameRead::Damaged => return Ok(Walked::Damaged),
+            FrameRead::Damaged { at: behind } => return Ok(Walked::Damaged {
+                at: at + 1 + behind,
+            }),
         }
     }
     Ok(Walked::Rest { at })

@@ -5,13 +5,13 @@ use Rattle.std.proofs.lemmas.Bool.{cases_Bool, eqb-true, and_from, and_parts, le
 use Rattle.disk_model.specs.declared.file_id.FileId.{FileId}
 use Rattle.disk_model.specs.Image.{written}
 use Rattle.segment_files.specs.Files.{is_open, IsWholeOrAbsent, then_shut}
-use Rattle.segment_files.specs.Numbers.{Four, number_at}
+use Rattle.segment_files.specs.Numbers.{four_at}
 use Rattle.segment_files.specs.Parse.{Numbered, Part, Closed, Whole, first_wrong, descriptor_fields, described, appended_part, Framed, frame, is_next, frame_room, Walk, Ends, Fails, appended_walk, parse_open, parse}
 use Rattle.segment_set.specs.Growth.{grown}
 use Rattle.segment_set.proofs.Walks.{walked, reach, extend, extended, one_frame, walk_shut}
 
 abbrev the_part : FileId → List ℕ → Numbered → ℕ → Part
-the_part id head entries gate = record { id = id; rewritten = false; last = id.base - 1 + length entries; cut = 0; floor = 0; size = number_at Four 56 head; entries = entries; gate = 64 + gate }
+the_part id head entries gate = record { id = id; rewritten = false; last = id.base - 1 + length entries; cut = 0; floor = 0; size = four_at 56 head; entries = entries; gate = 64 + gate }
 
 pub record Appended (id : FileId) (b : List ℕ) (tail : Part) : Type 0 where
   pub is_open : is_open b ≡ true
@@ -108,7 +108,7 @@ module _ (id : FileId) (b : List ℕ) (tail : Part) (a : Appended id b tail) whe
       same =
           let last : id.base - 1 + length (a.entries ++ new) ≡ id.base - 1 + length a.entries + length new = omega (arith, length-append a.entries new) in
           let gate : 64 + (a.gate + suc (length fb)) ≡ 64 + a.gate + (1 + length fb) = omega arith in
-          λ i. record { id = id; rewritten = false; last = last i; cut = 0; floor = 0; size = number_at Four 56 (take 64 b); entries = a.entries ++ new; gate = gate i }
+          λ i. record { id = id; rewritten = false; last = last i; cut = 0; floor = 0; size = four_at 56 (take 64 b); entries = a.entries ++ new; gate = gate i }
 
 -- a part has the id of its file
 pub parse_id : (id : FileId) (b : List ℕ) (q : Part) → parse id b ≡ Whole q → q.id ≡ id

@@ -7,7 +7,7 @@ use Rattle.disk_model.specs.View.{View, MayHold, IsListed, IsSettled, IsSound, L
 use Rattle.disk_model.specs.Calls.{Lists}
 use Rattle.segment_files.specs.declared.descriptor.Descriptor.{Descriptor}
 use Rattle.segment_files.specs.Files.{HasNames, IsAtGate}
-use Rattle.segment_files.specs.Parse.{Numbered, Part, Whole}
+use Rattle.segment_files.specs.Parse.{Numbered, Part, Whole, base_place}
 use Rattle.segment_files.specs.Folder.{Folder, folder, entries_of, IsChoice, IsFault}
 use Rattle.segment_set.specs.declared.opened.Opened.{Opened}
 use Rattle.segment_set.specs.declared.parts.Tail.{Tail}
@@ -114,13 +114,16 @@ loaded_greatest v0 name ids greatest lists above taken = record {
 
 -- a lone file that doesn't begin with the first entry
 pub unbased : (v0 v1 : View) (name : List ℕ) (ids closed : List FileId) (one : Opened) → Lists v0 name ids → v1.reading ≡ v0.reading → Surveyed (folder name v1.reading) ids closed (Some one.id)
-    → OpenedIs (folder name v1.reading) (Some one) → one.id.base ≢ 1 → IsFault (folder name v0.reading) one.id
+    → OpenedIs (folder name v1.reading) (Some one) → one.id.base ≢ 1 → IsFault (folder name v0.reading) one.id base_place
 unbased v0 v1 name ids closed one lists read1 s opened ne =
     let whole0 : folder name v0.reading one.id ≡ Whole opened.0 = ap (λ (r : Image). folder name r one.id) (sym read1) ∙ opened.1 in
     let part_id : opened.0.id ≡ one.id = folder_id name v0.reading one.id opened.0 whole0 in
-    inr (record {
-      part = opened.0;
-      choice = chosen_one v0 v1 name ids closed (Some one.id) lists read1 s one.id opened.0 refl whole0;
-      id_is = part_id;
-      unbased = λ is. ne (sym (ap (λ (i : FileId). i.base) part_id) ∙ is);
-    })
+    inr (
+      record {
+        part = opened.0;
+        choice = chosen_one v0 v1 name ids closed (Some one.id) lists read1 s one.id opened.0 refl whole0;
+        id_is = part_id;
+        unbased = λ is. ne (sym (ap (λ (i : FileId). i.base) part_id) ∙ is);
+      },
+      refl,
+    )

@@ -5,10 +5,11 @@ use Rattle.std.proofs.lemmas.List.{map-append, length-map}
 use Rattle.std.proofs.lemmas.Bool.{eqb-true, and_parts}
 use Rattle.host_types.specs.declared.entry.Entry.{Entry}
 use Rattle.disk_model.specs.declared.file_id.FileId.{FileId}
-use Rattle.segment_files.specs.Numbers.{Four, number_at}
+use Rattle.segment_files.specs.Numbers.{four_at}
 use Rattle.entry_codec.specs.Reading.{Spelling, Spells, Spoils, spelling}
 use Rattle.host_types.specs.Limits.{last_limit}
-use Rattle.segment_files.specs.Parse.{Numbered, Part, Whole, Body, Holds, Breaks, with_entry, first_of, body, Framed, Crooked, framed, frame, is_next, frame_room, parse}
+use Rattle.segment_files.proofs.Bodies.{next_index}
+use Rattle.segment_files.specs.Parse.{Numbered, Part, Whole, Body, Holds, Breaks, with_entry, is_misplaced, spelled_first, first_of, body, Framed, Crooked, framed, frame, is_next, frame_room, parse}
 use Rattle.segment_set.specs.Fits.{bare}
 use Rattle.segment_set.proofs.Walks.{Walked, By_byte, At_gate, By_frame, walked, frame_form}
 use Rattle.segment_set.proofs.Appended.{appended}
@@ -42,8 +43,8 @@ more_follow before a b f g = record {
       ∙ ap (enumerate_from (before + 1)) (sym (map-append (λ (e : ℕ × Entry). e.1) a b));
 }
 
-next_is : (before index : ℕ) (entry : Entry) → is_next before index entry ≡ true → index ≡ before + 1
-next_is before index entry t = eqb-true index (before + 1) (and_parts (nat_eq index (before + 1)) (nat_le index last_limit) t).0
+next_is : (before index : ℕ) → is_next before index ≡ true → index ≡ before + 1
+next_is before index t = eqb-true index (before + 1) (and_parts (nat_eq index (before + 1)) (nat_le index last_limit) t).0
 
 body_none : (room before : ℕ) → body is_next room before [] ≡ Holds []
 unfolding body
@@ -54,7 +55,7 @@ body_full : (before b : ℕ) (bytes : List ℕ) → body is_next zero before (b 
 unfolding body
 body_full before b bytes = refl
 
-body_one : (room before b : ℕ) (bytes : List ℕ) → body is_next (suc room) before (b ∷ bytes) ≡ first_of is_next before (spelling (b ∷ bytes)) (λ index size. body is_next room index (drop size (b ∷ bytes)))
+body_one : (room before b : ℕ) (bytes : List ℕ) → body is_next (suc room) before (b ∷ bytes) ≡ first_of is_next before (b ∷ bytes) (λ index size. body is_next room index (drop size (b ∷ bytes)))
 unfolding body
 body_one room before b bytes = refl
 
@@ -64,7 +65,7 @@ body_follows room before [] es is =
     let none : [] ≡ es = cc in
     subst (Follows before) none (none_follow before)
 body_follows zero before (b ∷ bytes) es is = absurd (cc (body_full before b bytes, is))
-body_follows (suc room) before (b ∷ bytes) es is = first (λ k m c. body_follows room k m c) (spelling (b ∷ bytes)) (sym (body_one room before b bytes) ∙ is)
+body_follows (suc room) before (b ∷ bytes) es is = placed (λ k m c. body_follows room k m c) (is_misplaced is_next before (b ∷ bytes)) refl (sym (body_one room before b bytes) ∙ is)
   where
     All : Type 0
     All = (before : ℕ) (bytes : List ℕ) (es : Numbered) → body is_next room before bytes ≡ Holds es → Follows before es
@@ -78,28 +79,29 @@ body_follows (suc room) before (b ∷ bytes) es is = first (λ k m c. body_follo
         let es_is : (index, entry) ∷ more ≡ es = cc in
         subst (Follows before) es_is (one_follows before index entry more next (all index (drop size (b ∷ bytes)) more c_is))
 
-    test : All → (index : ℕ) (entry : Entry) (size : ℕ) (t : Bool) → is_next before index entry ≡ t
-        → (if t then with_entry index entry size (body is_next room index (drop size (b ∷ bytes))) else Breaks 0) ≡ Holds es → Follows before es
-    test all index entry size true t_is is = behind all index entry size (next_is before index entry t_is) (body is_next room index (drop size (b ∷ bytes))) refl is
-    test all index entry size false t_is is = absurd (cc)
+    first : All → is_misplaced is_next before (b ∷ bytes) ≡ false → (s : Spelling) → spelling (b ∷ bytes) ≡ s → spelled_first s (λ index size. body is_next room index (drop size (b ∷ bytes))) ≡ Holds es → Follows before es
+    first all stands (Spoils p) s_is is = absurd (cc)
+    first all stands (Spells index entry size) s_is is =
+        behind all index entry size (next_is before index (next_index (b ∷ bytes) before stands index entry size s_is)) (body is_next room index (drop size (b ∷ bytes))) refl is
 
-    first : All → (s : Spelling) → first_of is_next before s (λ index size. body is_next room index (drop size (b ∷ bytes))) ≡ Holds es → Follows before es
-    first all (Spoils p) is = absurd (cc)
-    first all (Spells index entry size) is = test all index entry size (is_next before index entry) refl is
+    placed : All → (t : Bool) → is_misplaced is_next before (b ∷ bytes) ≡ t
+        → (if t then Breaks 0 else spelled_first (spelling (b ∷ bytes)) (λ index size. body is_next room index (drop size (b ∷ bytes)))) ≡ Holds es → Follows before es
+    placed all true t_is is = absurd (cc)
+    placed all false t_is is = first all t_is (spelling (b ∷ bytes)) refl is
 
 -- so those of a frame
 frame_follows : (before : ℕ) (l : List ℕ) (es : Numbered) (n : ℕ) → frame is_next frame_room before l ≡ Framed es n → Follows before es
 frame_follows before l es n is = short (nat_lt (length l) 4) (sym (frame_form is_next frame_room before l) ∙ is)
   where
     size : ℕ
-    size = number_at Four 0 l
+    size = four_at 0 l
 
     held : Body
-    held = body is_next frame_room before (take (number_at Four 0 l) (drop 4 l))
+    held = body is_next frame_room before (take (four_at 0 l) (drop 4 l))
 
     whole : (h : Numbered) → held ≡ Holds h → (t : Bool) → (if t then Crooked (length l) else Framed h (4 + size)) ≡ Framed es n → Follows before es
     whole h h_is true is = absurd (cc)
-    whole h h_is false is = let es_is : h ≡ es = cc in subst (Follows before) es_is (body_follows frame_room before (take (number_at Four 0 l) (drop 4 l)) h h_is)
+    whole h h_is false is = let es_is : h ≡ es = cc in subst (Follows before) es_is (body_follows frame_room before (take (four_at 0 l) (drop 4 l)) h h_is)
 
     read : (c : Body) → held ≡ c → framed size (length l) c ≡ Framed es n → Follows before es
     read (Breaks p) c_is is = absurd (cc)

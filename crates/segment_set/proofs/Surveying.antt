@@ -1,5 +1,5 @@
 -- The files of a folder, looked at one after the other.
-use Rattle.std.proofs.Common.{◌≡◌, ◌≢◌, ◌⊎◌, inl, inr, ⊎_elim, ℕ, ◌<◌, ◌≤◌, List, [], ◌∷◌, ◌++◌, length, take, get_or, Option, Some, None, sym, ap, subst, ◌∙◌, arith, Contains, length-take}
+use Rattle.std.proofs.Common.{◌≡◌, ◌≢◌, ◌⊎◌, inl, inr, ⊎_elim, ℕ, ◌<◌, ◌≤◌, List, [], ◌∷◌, ◌++◌, length, take, get_or, Option, Some, None, refl, sym, ap, subst, ◌∙◌, arith, Contains, length-take}
 use Rattle.std.specs.List.{AllPairs}
 use Rattle.std.proofs.lemmas.List.{get_or-take, get_or_default}
 use Rattle.std.proofs.lemmas.List.Elements.{Contains-push_cases, Contains-push, Contains-append_left, Contains-get_or}
@@ -9,8 +9,8 @@ use Rattle.disk_model.specs.declared.file_id.FileId.{FileId}
 use Rattle.disk_model.specs.Image.{IsBelow}
 use Rattle.disk_model.specs.View.{View}
 use Rattle.disk_model.specs.Calls.{Lists}
-use Rattle.segment_files.specs.Parse.{Part, Closed, Whole}
-use Rattle.segment_files.specs.Folder.{Folder, folder, HasOpen, IsDamaged, IsFirstDamaged}
+use Rattle.segment_files.specs.Parse.{Part, Closed, Whole, base_place}
+use Rattle.segment_files.specs.Folder.{Folder, folder, HasOpen, IsDamagedAt, IsFirstDamaged}
 use Rattle.segment_set.specs.Opening.{Surveyed}
 use Rattle.segment_set.proofs.Images.{nothing}
 use Rattle.segment_set.proofs.Picking.{below_apart, below_not, listed_when}
@@ -95,33 +95,37 @@ module _ (v : View) (name : List ℕ) (ids : List FileId) (lists : Lists v name 
       split : (a b : ℕ) → a ≤ b → (a < b) ⊎ (a ≡ b)
       split a b le = ⊎_elim (λ less. inl less) (λ more. inr (omega (arith, le, more))) (cases_lt a b)
 
-  pub first_damaged : IsDamaged (folder name v.reading) (get_or ids n d) → IsFirstDamaged (folder name v.reading) (get_or ids n d)
-  first_damaged damaged = record {
+  pub first_damaged : (at : ℕ) → IsDamagedAt (folder name v.reading) (get_or ids n d) at → IsFirstDamaged (folder name v.reading) (get_or ids n d) at
+  first_damaged at damaged = record {
     damaged = damaged;
-    first = λ other below is. not_damaged other below is;
+    first = λ other place below is. not_damaged other place below is;
   }
     where
-      not_damaged : (other : FileId) → IsBelow other (get_or ids n d) → IsDamaged (folder name v.reading) other → ⊥
-      not_damaged other below (inl bad) =
-          let opens : HasOpen (folder name v.reading) other = λ shut. absurd (cc (shut, bad.1)) in
+      not_damaged : (other : FileId) (place : ℕ) → IsBelow other (get_or ids n d) → IsDamagedAt (folder name v.reading) other place → ⊥
+      not_damaged other place below (inl bad) =
+          let opens : HasOpen (folder name v.reading) other = λ shut. absurd (cc (shut, bad)) in
           let whole = s.opened_whole other (before other opens below) in
-          absurd (cc (whole.1, bad.1))
-      not_damaged other below (inr second) =
-          let one_is = before other second.is_open below in
+          absurd (cc (whole.1, bad))
+      not_damaged other place below (inr (second, is)) =
+          let one_is = before other (λ shut. absurd (cc (shut, second.whole))) below in
           let first_is = before second.first second.first_open (below_through second.first other (get_or ids n d) second.below below) in
           let same : second.first ≡ other = cc (one_is, first_is) in
           below_apart second.first other second.below same
 
-  -- a second open file counts as damaged
-  pub second_open : (first : FileId) → opened ≡ Some first → HasOpen (folder name v.reading) (get_or ids n d) → IsDamaged (folder name v.reading) (get_or ids n d)
-  second_open first is opens =
+  -- a second open file counts as damaged at its base
+  pub second_open : (first : FileId) (part : Part) → opened ≡ Some first → folder name v.reading (get_or ids n d) ≡ Whole part → IsDamagedAt (folder name v.reading) (get_or ids n d) base_place
+  second_open first part is opens =
       let whole = s.opened_whole first is in
       let has = s.opened_among first is in
       let below : has.0 < n = omega (arith, has.1, length-take n ids) in
       let at : get_or ids has.0 first ≡ first = sym (get_or-take n ids has.0 first below) ∙ has.2 in
-      inr (record {
-        is_open = opens;
-        first = first;
-        first_open = λ shut. absurd (cc (shut, whole.1));
-        below = subst (λ (i : FileId). IsBelow i (get_or ids n d)) at (subst (λ (i : FileId). IsBelow (get_or ids has.0 first) i) (get_or_default ids n first d lt) (lists.rising has.0 n first below lt));
-      })
+      inr (
+        record {
+          part = part;
+          whole = opens;
+          first = first;
+          first_open = λ shut. absurd (cc (shut, whole.1));
+          below = subst (λ (i : FileId). IsBelow i (get_or ids n d)) at (subst (λ (i : FileId). IsBelow (get_or ids has.0 first) i) (get_or_default ids n first d lt) (lists.rising has.0 n first below lt));
+        },
+        refl,
+      )

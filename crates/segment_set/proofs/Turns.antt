@@ -9,7 +9,7 @@ use Rattle.disk_model.specs.Calls.{Lists}
 use Rattle.disk_model.proofs.Moments.{goes_further, weaker}
 use Rattle.disk_model.proofs.Names.{holds_now}
 use Rattle.segment_files.specs.Parse.{Part, Found, Closed, Whole, Damaged, parse}
-use Rattle.segment_files.specs.Folder.{Folder, folder, IsFirstDamaged}
+use Rattle.segment_files.specs.Folder.{Folder, folder, IsDamagedAt, IsFirstDamaged}
 use Rattle.segment_files.specs.Contents.{Shows, IsFound}
 use Rattle.segment_files.specs.declared.reading.Part.{Part as Scanned}
 use Rattle.segment_files.specs.declared.reading.Found.TheVariants.{Part as Is_part}
@@ -66,13 +66,14 @@ module _ (v0 v : View) (name : List ℕ) (ids : List FileId) (lists : Lists v0 n
         (looked.1.0, ap (folder name v0.reading) looked.0 ∙ whole, looked.1.2),
       )
 
-  pub damaged_first : (has_open : Bool) → has_open ≡ is_some opened → IsSeenDamaged (folder name v.reading) (get_or ids n d) has_open → IsFirstDamaged (folder name v0.reading) (get_or ids n d)
-  damaged_first has_open is seen =
-      first_damaged v0 name ids lists n d lt closed (opened_id opened) s
+  pub damaged_first : (has_open : Bool) (at : ℕ) → has_open ≡ is_some opened → IsSeenDamaged (folder name v.reading) (get_or ids n d) has_open at → IsFirstDamaged (folder name v0.reading) (get_or ids n d) at
+  damaged_first has_open at is seen =
+      first_damaged v0 name ids lists n d lt closed (opened_id opened) s at
       (⊎_elim
-      (λ bad. inl (bad.0, sym (ap (λ (f : Folder). f (get_or ids n d)) same_folder) ∙ bad.1))
+      (λ bad. inl (sym (ap (λ (f : Folder). f (get_or ids n d)) same_folder) ∙ bad))
       (λ second. let one = some_id opened (sym is ∙ second.0) in
-      second_open v0 name ids lists n d lt closed (opened_id opened) s one.0 one.1 (λ shut. second.1 (ap (λ (f : Folder). f (get_or ids n d)) same_folder ∙ shut)))
+      subst (IsDamagedAt (folder name v0.reading) (get_or ids n d)) (sym second.2)
+      (second_open v0 name ids lists n d lt closed (opened_id opened) s one.0 second.1.0 one.1 (sym (ap (λ (f : Folder). f (get_or ids n d)) same_folder) ∙ second.1.1)))
       seen)
 
   -- nothing was open yet
@@ -98,8 +99,8 @@ turned v0 v name ids lists reading n d lt closed closed' opened opened' s (Some 
     (subst (λ (o : Option Opened). SurveyIs v0 name (take (n + 1) ids) closed o) (sym adds.1)
     (open_more v0 v name ids lists reading n d lt closed opened s.0 one none looked))
 
-pub found_id : (base generation at : ℕ) (id : FileId) → base ≡ id.base → generation ≡ id.generation → id ≡ id_from base generation
-found_id base generation at id b g = λ i. record { base = sym b i; generation = sym g i }
+pub found_id : (base generation : ℕ) (id : FileId) → base ≡ id.base → generation ≡ id.generation → id ≡ id_from base generation
+found_id base generation id b g = λ i. record { base = sym b i; generation = sym g i }
 
 -- the closed files are among those that were listed
 pub ids_more : (ids : List FileId) (n : ℕ) (d : FileId) → n < length ids → All IsFileId ids → (closed : List FileId) (opened : Option Opened) (closed' : List FileId) (opened' : Option Opened) (one : Option Opened)
@@ -108,8 +109,8 @@ ids_more ids n d lt all closed opened closed' opened' None so_far adds = subst (
 ids_more ids n d lt all closed opened closed' opened' (Some one) so_far adds = subst (λ (l : List FileId). All IsFileId l) (sym adds.0) so_far
 
 -- the numbers of a fault
-pub fault_of : (id : FileId) (base generation at : ℕ) → Is_damaged id.base id.generation 0 ≡ Is_damaged base generation at → IsOf base generation at id
-fault_of id base generation at is = (cc, cc, cc)
+pub fault_of : (id : FileId) (place base generation at : ℕ) → Is_damaged id.base id.generation place ≡ Is_damaged base generation at → IsOf base generation id × (at ≡ place)
+fault_of id place base generation at is = ((cc, cc), cc)
 
 -- after the syncs the same files are listed
 pub listed_again : (v0 v : View) (name : List ℕ) (ids now : List FileId) → now ≡ ids → Lists v0 name ids → v.reading ≡ v0.reading → Lists v name now

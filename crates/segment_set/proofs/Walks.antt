@@ -3,7 +3,7 @@ use Rattle.std.proofs.Common.{◌≡◌, ℕ, zero, suc, ◌+◌, ◌<◌, ◌�
 use Rattle.std.proofs.lemmas.List.{take-take, take-append-le, drop-take, append-nil}
 use Rattle.std.proofs.lemmas.Bool.{ltb-false, le-ltb, eqb-true}
 use Rattle.std.specs.Int.{w32, from_be_bytes}
-use Rattle.segment_files.specs.Numbers.{Four, number_at}
+use Rattle.segment_files.specs.Numbers.{four_at, number_at}
 use Rattle.segment_files.specs.Parse.{Numbered, Follows, Body, Holds, Breaks, body, Frame, Framed, Crooked, framed, frame, Walk, Ends, Fails, behind_byte, behind_frame, go_on, is_next, frame_room, appended_walk}
 
 -- a frame by its size, the bytes that are there, and its body
@@ -13,7 +13,7 @@ form size long b =
     else if not (nat_le 17 size && nat_le size 8388608) then Crooked 0
     else framed size long b
 
-pub frame_form : (follows : Follows) (room before : ℕ) (l : List ℕ) → frame follows room before l ≡ form (number_at Four 0 l) (length l) (body follows room before (take (number_at Four 0 l) (drop 4 l)))
+pub frame_form : (follows : Follows) (room before : ℕ) (l : List ℕ) → frame follows room before l ≡ form (four_at 0 l) (length l) (body follows room before (take (four_at 0 l) (drop 4 l)))
 unfolding frame
 frame_form follows room before l = refl
 
@@ -66,14 +66,14 @@ agrees_long n l c le same = omega (arith, le, length-take n l, length-take n c, 
 narrower : (m n : ℕ) (l c : List ℕ) → m ≤ n → take n c ≡ take n l → take m c ≡ take m l
 narrower m n l c le same = sym (take-take m n c le) ∙ ap (λ (x : List ℕ). take m x) same ∙ take-take m n l le
 
-numbers : (x y : List ℕ) → take 4 x ≡ take 4 y → number_at Four 0 x ≡ number_at Four 0 y
+numbers : (x y : List ℕ) → take 4 x ≡ take 4 y → four_at 0 x ≡ four_at 0 y
 unfolding number_at
 numbers x y same = ap (λ (k : List ℕ). from_be_bytes w32 k) same
 
 -- A frame is read the same wherever its bytes stand.
 pub frame_same : (follows : Follows) (room before n : ℕ) (es : Numbered) (l c : List ℕ) → frame follows room before l ≡ Framed es n → take n c ≡ take n l → frame follows room before c ≡ Framed es n
 frame_same follows room before n es l c is same =
-    let size = number_at Four 0 l in
+    let size = four_at 0 l in
     let f = fits size (length l) n es (body follows room before (take size (drop 4 l))) (sym (frame_form follows room before l) ∙ is) in
     let long : n ≤ length c = agrees_long n l c f.within same in
     let four : take 4 c ≡ take 4 l = narrower 4 n l c (omega (arith, f.size_is)) same in
@@ -86,7 +86,7 @@ frame_same follows room before n es l c is same =
 
 pub frame_within : (follows : Follows) (room before n : ℕ) (es : Numbered) (l : List ℕ) → frame follows room before l ≡ Framed es n → n ≤ length l
 frame_within follows room before n es l is =
-    (fits (number_at Four 0 l) (length l) n es (body follows room before (take (number_at Four 0 l) (drop 4 l))) (sym (frame_form follows room before l) ∙ is)).within
+    (fits (four_at 0 l) (length l) n es (body follows room before (take (four_at 0 l) (drop 4 l))) (sym (frame_form follows room before l) ∙ is)).within
 
 -- THE WALK. What stands ahead of its shut gate, and what stands there.
 abbrev pub extended : Numbered → ℕ → Walk → Walk

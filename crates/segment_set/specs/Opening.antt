@@ -5,8 +5,8 @@ use Rattle.disk_model.specs.declared.file_id.FileId.{FileId}
 use Rattle.disk_model.specs.Image.{Place, Image, place}
 use Rattle.disk_model.specs.View.{View, MayHold, MayLeave, IsListed, LeavesAt}
 use Rattle.segment_files.specs.Contents.{AreNumbered, Shows}
-use Rattle.segment_files.specs.Parse.{Numbered, Part, Closed, Whole, Damaged}
-use Rattle.segment_files.specs.Folder.{Folder, folder, HasOpen}
+use Rattle.segment_files.specs.Parse.{Numbered, Part, Closed, Whole, Damaged, base_place}
+use Rattle.segment_files.specs.Folder.{Folder, folder}
 use Rattle.segment_set.specs.declared.opening.OpenError.{OpenError}
 use Rattle.segment_set.specs.declared.opening.OpenError.TheVariants.{Disk as Is_disk}
 use Rattle.segment_set.specs.declared.opened.Opened.{Opened}
@@ -48,13 +48,13 @@ abbrev pub IsLooked : Folder → FileId → Option Opened → Type 0
 IsLooked files id None = files id ≡ Closed
 IsLooked files id (Some opened) = (opened.id ≡ id) × ((part : Part) × (files id ≡ Whole part) × Shows opened.part part)
 
--- why a file counts as damaged: in itself, or as a second one with an open gate
-abbrev pub IsSeenDamaged : Folder → FileId → Bool → Type 0
-IsSeenDamaged files id has_open = ((at : ℕ) × (files id ≡ Damaged at)) ⊎ (IsTrue has_open × HasOpen files id)
+-- why a file counts as damaged, and where: in itself, or as a second one with an open gate
+abbrev pub IsSeenDamaged : Folder → FileId → Bool → ℕ → Type 0
+IsSeenDamaged files id has_open at = (files id ≡ Damaged at) ⊎ (IsTrue has_open × ((part : Part) × (files id ≡ Whole part)) × (at ≡ base_place))
 
 -- a fault has the numbers of this file
-abbrev pub IsOf : ℕ → ℕ → ℕ → FileId → Type 0
-IsOf base generation at id = (base ≡ id.base) × (generation ≡ id.generation) × (at ≡ 0)
+abbrev pub IsOf : ℕ → ℕ → FileId → Type 0
+IsOf base generation id = (base ≡ id.base) × (generation ≡ id.generation)
 
 -- the open file that was found
 abbrev pub opened_id : Option Opened → Option FileId

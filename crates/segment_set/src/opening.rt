@@ -5,9 +5,9 @@ ghost use Rattle.disk_model.specs.declared.file_id.FileId.{FileId};
 ghost use Rattle.disk_model.specs.Image.{IsFileId, place};
 ghost use Rattle.disk_model.specs.View.{LeavesAt, LeavesOnly, MayHold, IsListed};
 ghost use Rattle.disk_model.specs.Calls.{Lists, Stays};
-ghost use Rattle.segment_files.specs.Parse.{Closed};
+ghost use Rattle.segment_files.specs.Parse.{base_place};
 ghost use Rattle.segment_files.specs.Contents.{AreNumbered};
-ghost use Rattle.segment_files.specs.Folder.{folder, entries_of, HasOpen, IsChoice, IsDamaged, IsFault, IsFirstDamaged, StandsForPrefix};
+ghost use Rattle.segment_files.specs.Folder.{folder, entries_of, IsChoice, IsFault, IsFirstDamaged, StandsForPrefix};
 ghost use Rattle.segment_set.specs.Fits.{Fits, IsEmptyWhereNone, IsHeld, IsInOrder, KeepsNames, last_of, parts_in};
 ghost use Rattle.segment_set.specs.Opening.{Adds, AreHanded, AreOpened, HandsOver, HasOpenCause, IsGreatestListed, IsLooked, IsOf, IsSeenDamaged, IsTailFound, OpenedIs, Surveyed, id_from, opened_id};
 
@@ -24,11 +24,14 @@ use std::alloc::Global;
 pub enum OpenError {
     /// The disk failed.
     Disk,
-    /// This file isn't right, and no other is read in its stead. The place is 0 for now, wherever it is.
+    /// This file isn't right from this place on (`docs/format.md`), and no other is read in its stead.
     Damaged { base: u64, generation: u64, at: u64 },
     /// No memory was left.
     NoMemory,
 }
+
+/// Where the base stands in a file.
+const BASE_PLACE: u64 = 16;
 
 /// What the files of a name were found to be.
 #[derive(Drop)]
@@ -55,14 +58,14 @@ impl Survey {
     }
 }
 
-/// The fault of a file that isn't right.
-fn damaged(id: FileId) -> OpenError
-    ensures { result ≡ OpenError.Damaged id.base id.generation 0 }
+/// The fault of a file that isn't right at this place.
+fn damaged(id: FileId, at: u64) -> OpenError
+    ensures { result ≡ OpenError.Damaged id.base id.generation at }
 {
     OpenError::Damaged {
         base: id.base,
         generation: id.generation,
-        at: 0,
+        at,
     }
 }
 
@@ -78,7 +81,7 @@ fn disk_error(fault: DiskFault) -> OpenError
 }
 
 /// Reads one file: its part, whose entries are put into `entries`, or none where it is closed. A second open file counts
-/// as damaged.
+/// as damaged at its base.
 fn look<D: Disk>(
     alloc: Global,
     disk: &mut D,
@@ -94,7 +97,7 @@ fn look<D: Disk>(
     ensures read { IfOk result (λ opened. IsTrue D.tells → AreOpened (folder name.now (D.view disk.old).reading) opened entries.new.items) }
     ensures second { IsTrue has_open → IfOk result (λ opened. opened ≡ None) }
     ensures damaged { (base generation at : ℕ) → IsErrOf result (OpenError.Damaged base generation at)
-        → IsOf base generation at id × (IsTrue D.tells → IsSeenDamaged (folder name.now (D.view disk.old).reading) id has_open) }
+        → IsOf base generation id × (IsTrue D.tells → IsSeenDamaged (folder name.now (D.view disk.old).reading) id has_open at) }
     ensures stays { IsTrue D.tells → Stays (D.view disk.old) (D.view disk.new) }
     ensures any_moment { IsTrue D.tells → LeavesAt (D.view disk.old) (D.view disk.new) (MayHold (D.view disk.old)) }
     ensures cause { HasOpenCause (D.faults disk.old) (D.faults disk.new) result }
@@ -103,11 +106,11 @@ fn look<D: Disk>(
         Ok(Found::Closed) => Ok(None),
         Ok(Found::Part(part)) => {
             if has_open {
-                return Err(damaged(id));
+                return Err(damaged(id, BASE_PLACE));
             }
             Ok(Some(Opened { id, part }))
         }
-        Err(FileFault::Damaged { .. }) => Err(damaged(id)),
+        Err(FileFault::Damaged { at }) => Err(damaged(id, at)),
         Err(FileFault::Failed) => Err(OpenError::Disk),
         Err(FileFault::NoMemory) => Err(OpenError::NoMemory),
     }
@@ -130,7 +133,7 @@ fn read_all<D: Disk>(
     ensures read { IfOk result (λ found. IsTrue D.tells → AreOpened (folder name.now (D.view disk.old).reading) found.opened entries.new.items) }
     ensures closed { IfOk result (λ found. All IsFileId found.closed.items) }
     ensures damaged { (base generation at : ℕ) → IsErrOf result (OpenError.Damaged base generation at)
-        → (at ≡ 0) × (IsTrue D.tells → IsFirstDamaged (folder name.now (D.view disk.old).reading) (id_from base generation)) }
+        → IsTrue D.tells → IsFirstDamaged (folder name.now (D.view disk.old).reading) (id_from base generation) at }
     ensures reading { IsTrue D.tells → (D.view disk.new).reading ≡ (D.view disk.old).reading }
     ensures any_moment { IsTrue D.tells → LeavesAt (D.view disk.old) (D.view disk.new) (MayHold (D.view disk.old)) }
     ensures cause { HasOpenCause (D.faults disk.old) (D.faults disk.new) result }
@@ -155,14 +158,15 @@ fn read_all<D: Disk>(
 /// The open file as the tail of a log. It has to begin with the first entry.
 fn tail_of(opened: Option<Opened>) -> Result<Option<Tail>, OpenError>
     ensures ok { IfOk result (λ tail. IsTailFound opened tail) }
-    ensures damaged { (base generation at : ℕ) → IsErrOf result (OpenError.Damaged base generation at) → (one : Opened) × (opened ≡ Some one) × IsOf base generation at one.id × (one.id.base ≢ 1) }
+    ensures damaged { (base generation at : ℕ) → IsErrOf result (OpenError.Damaged base generation at)
+        → (one : Opened) × (opened ≡ Some one) × IsOf base generation one.id × (at ≡ base_place) × (one.id.base ≢ 1) }
     ensures disk { IsErrOf result OpenError.Disk → ⊥ }
 {
     let Some(one) = opened else {
         return Ok(None);
     };
     if one.id.base != 1 {
-        return Err(damaged(one.id));
+        return Err(damaged(one.id, BASE_PLACE));
     }
     Ok(Some(Tail {
         id: one.id,
@@ -209,12 +213,12 @@ impl Parts {
         ensures numbered { OnOk result (AreNumbered 0 entries.new.items) }
         ensures last { IfOk result (λ parts. last_of parts.tail ≡ length entries.new.items) }
 
-        // A damaged file is named by its cause, and the files are as they were.
+        // A damaged file is named by its cause and with its place, and the files are as they were.
         ensures damaged { (base generation at : ℕ) → IsErrOf result (OpenError.Damaged base generation at)
-            → (at ≡ 0) × (IsTrue D.tells → IsFault (folder name.now (D.view disk.old).reading) (id_from base generation) × ((D.view disk.new).reading ≡ (D.view disk.old).reading)) }
+            → IsTrue D.tells → IsFault (folder name.now (D.view disk.old).reading) (id_from base generation) at × ((D.view disk.new).reading ≡ (D.view disk.old).reading) }
 
         // Whatever it answers of files that aren't right, they are as they were.
-        ensures unharmed { IsTrue D.tells → (id : FileId) → IsFault (folder name.now (D.view disk.old).reading) id
+        ensures unharmed { IsTrue D.tells → (id : FileId) (at : ℕ) → IsFault (folder name.now (D.view disk.old).reading) id at
             → ((D.view disk.new).reading ≡ (D.view disk.old).reading) × LeavesAt (D.view disk.old) (D.view disk.new) (MayHold (D.view disk.old)) }
 
         ensures any_moment { IsTrue D.tells → (log : List Entry) (least : ℕ) → IsInOrder (D.view disk.old) name.now log least

@@ -48,7 +48,7 @@ returns-in-Ok-clause-ran g c = λ t log least order bytes left.
     })
 
 pub returns-in-Ok-clause-faulty : goal.returns-in-Ok-clause-faulty
-returns-in-Ok-clause-faulty g c = λ t id fault. absurd (c.in-Ok.ensures.faultless t id fault)
+returns-in-Ok-clause-faulty g c = λ t id at fault. absurd (c.in-Ok.ensures.faultless t id at fault)
 
 pub returns-in-Ok-clause-damaged : goal.returns-in-Ok-clause-damaged
 returns-in-Ok-clause-damaged g c = λ seven t. absurd (c.run_script-status.ensures.undamaged seven t)
@@ -66,7 +66,7 @@ returns-in-Err-clause-ran g c = λ t log least order bytes left.
       text = e.text;
       wrote = e.wrote;
       how = inr (record {
-        unopened = stays_unopened name (Some bytes) _ v _ _ (unopened_of name v _ c.in-Err.error _ c.of_opening.ensures (λ is. c.in-Err.ensures.cause.failed (ap Err is)) (λ base generation at is. ((c.in-Err.ensures.damaged base generation at (ap Err is)).0, ((c.in-Err.ensures.damaged base generation at (ap Err is)).1 t).0)))
+        unopened = stays_unopened name (Some bytes) _ v _ _ (unopened_of name v _ c.in-Err.error _ c.of_opening.ensures (λ is. c.in-Err.ensures.cause.failed (ap Err is)) (λ base generation at is. (c.in-Err.ensures.damaged base generation at (ap Err is) t).0))
             _ _ _ _ _ e left;
         any_moment = moments;
         at_exit = still_in_order law name log least order.logged v w (g.met.D.Disk.sound c.in-Err.disk t) moments (c.in-Err.ensures.empty t order.empty);
@@ -74,15 +74,15 @@ returns-in-Err-clause-ran g c = λ t log least order bytes left.
     }
 
 pub returns-in-Err-clause-faulty : goal.returns-in-Err-clause-faulty
-returns-in-Err-clause-faulty g c = λ t id fault.
+returns-in-Err-clause-faulty g c = λ t id at fault.
     let name = c.args.name.now in
     let v = g.D.Disk.view c.args.disk in
     let e = c.close_run.ensures.ends in
-    let harm = c.in-Err.ensures.unharmed t id fault in
+    let harm = c.in-Err.ensures.unharmed t id at fault in
     record {
       text = e.text;
       wrote = e.wrote;
-      unopened = stays_unopened name _ _ v _ _ (unopened_of name v _ c.in-Err.error _ c.of_opening.ensures (λ is. c.in-Err.ensures.cause.failed (ap Err is)) (λ base generation at is. ((c.in-Err.ensures.damaged base generation at (ap Err is)).0, ((c.in-Err.ensures.damaged base generation at (ap Err is)).1 t).0)))
+      unopened = stays_unopened name _ _ v _ _ (unopened_of name v _ c.in-Err.error _ c.of_opening.ensures (λ is. c.in-Err.ensures.cause.failed (ap Err is)) (λ base generation at is. (c.in-Err.ensures.damaged base generation at (ap Err is) t).0))
           _ _ _ _ _ e refl;
       same = harm.0;
       any_moment = harm.1;
@@ -92,7 +92,7 @@ pub returns-in-Err-clause-damaged : goal.returns-in-Err-clause-damaged
 returns-in-Err-clause-damaged g c = λ seven t.
     let d = tells_damage _ _ _ _ _ _ _ c.close_run.ensures.ends seven in
     let is = damage_from c.in-Err.error d.0 d.1 d.2 (sym c.of_opening.ensures ∙ d.3) in
-    (id_from d.0 d.1, ((c.in-Err.ensures.damaged d.0 d.1 d.2 (ap Err is)).1 t).0)
+    (id_from d.0 d.1, d.2, (c.in-Err.ensures.damaged d.0 d.1 d.2 (ap Err is) t).0)
 
 pub returns-in-Err-clause-causes : goal.returns-in-Err-clause-causes
 returns-in-Err-clause-causes g c =

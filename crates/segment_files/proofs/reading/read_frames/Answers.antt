@@ -1,10 +1,9 @@
-use Rattle.std.proofs.Common.{◌≡◌, ◌-◌, ◌+◌, ℕ, length, drop, sym, ap, subst, ◌∙◌, ◌++◌, arith, length-take, length-append}
+use Rattle.std.proofs.Common.{◌≡◌, ◌-◌, ◌+◌, ℕ, length, drop, sym, ap, subst, ◌++◌, arith, length-take, length-append}
 use Rattle.disk_model.specs.Image.{place}
 use Rattle.segment_files.specs.declared.windows.Walked.{Walked}
-use Rattle.segment_files.specs.declared.windows.Walked.TheVariants.{Rest}
 use Rattle.segment_files.specs.Contents.{AreNumbered, IsMeasured, ReadsPiece}
 use Rattle.segment_files.proofs.Looking.{looks_not, looks_then, reads_still}
-use Rattle.segment_files.proofs.Scanning.{ScannedTo, scanned_none, scanned_end, scanned_bad, scanned_stuck, scanned_gate, scanned_more}
+use Rattle.segment_files.proofs.Scanning.{ScannedTo, scanned_none, scanned_end, scanned_bad, scanned_gate, scanned_more}
 use Rattle.segment_files.proofs.reading.read_frames.Goals as goal
 
 pub loop-at-init : goal.loop-at-init
@@ -24,10 +23,9 @@ returns-in-Gate-clause-frames g c = λ t bytes reads.
     let before = c.args.id.base - 1 in
     let old = c.loop-at.entries.items in
     let new = c.read_piece.new.entries.items in
-    let most = length c.deref_mut.result.now in
     let now = reads_still (view c.args.disk.now) (view c.loop-at.disk) (place c.args.name.now c.args.id) bytes (c.loop-at.invariant.looks t) reads in
-    scanned_gate bytes before old new c.loop-at.at (c.loop-at.invariant.scanned t bytes reads) most c.in-Gate.behind
-    (subst (λ (w : Walked). ReadsPiece (drop c.loop-at.at bytes) most (before + length old) old new w) c.in-Gate.is (c.in_ok-behind.ensures.reads t bytes now))
+    scanned_gate bytes before old new c.loop-at.at (c.loop-at.invariant.scanned t bytes reads) c.in-Gate.behind
+    (subst (λ (w : Walked). ReadsPiece (drop c.loop-at.at bytes) (before + length old) old new w) c.in-Gate.is (c.in_ok-behind.ensures.reads t bytes now))
 
 pub returns-in-Damaged-clause-frames : goal.returns-in-Damaged-clause-frames
 returns-in-Damaged-clause-frames g c = λ t bytes reads.
@@ -35,23 +33,9 @@ returns-in-Damaged-clause-frames g c = λ t bytes reads.
     let before = c.args.id.base - 1 in
     let old = c.loop-at.entries.items in
     let new = c.read_piece.new.entries.items in
-    let most = length c.deref_mut.result.now in
     let now = reads_still (view c.args.disk.now) (view c.loop-at.disk) (place c.args.name.now c.args.id) bytes (c.loop-at.invariant.looks t) reads in
-    scanned_bad bytes before old new c.loop-at.at (c.loop-at.invariant.scanned t bytes reads) most
-    (subst (λ (w : Walked). ReadsPiece (drop c.loop-at.at bytes) most (before + length old) old new w) c.in-Damaged.is (c.in_ok-behind.ensures.reads t bytes now))
-
-pub returns-else-end-at-clause-frames : goal.returns-else-end-at-clause-frames
-returns-else-end-at-clause-frames g c = λ t bytes reads.
-    let view = g.D.Disk.view in
-    let before = c.args.id.base - 1 in
-    let old = c.loop-at.entries.items in
-    let new = c.read_piece.new.entries.items in
-    let most = length c.deref_mut.result.now in
-    let now = reads_still (view c.args.disk.now) (view c.loop-at.disk) (place c.args.name.now c.args.id) bytes (c.loop-at.invariant.looks t) reads in
-    let none : c.in-Rest.behind ≡ 0 = omega (arith, c.if-behind-gt0.false) in
-    scanned_stuck bytes before old new c.loop-at.at (c.loop-at.invariant.scanned t bytes reads) most
-    (omega (arith, c.if-end-at.false, c.requires.end t bytes reads, c.deref_mut.ensures.len, c.len.ensures, c.read_piece.auto.buffer))
-    (subst (λ (w : Walked). ReadsPiece (drop c.loop-at.at bytes) most (before + length old) old new w) (c.in-Rest.is ∙ ap (λ (k : ℕ). Rest k) none) (c.in_ok-behind.ensures.reads t bytes now))
+    scanned_bad bytes before old new c.loop-at.at (c.loop-at.invariant.scanned t bytes reads) c.in-Damaged.behind
+    (subst (λ (w : Walked). ReadsPiece (drop c.loop-at.at bytes) (before + length old) old new w) c.in-Damaged.is (c.in_ok-behind.ensures.reads t bytes now))
 
 pub loop-at-preserved-then-behind-gt0 : goal.loop-at-preserved-then-behind-gt0
 loop-at-preserved-then-behind-gt0 g c =
@@ -59,7 +43,6 @@ loop-at-preserved-then-behind-gt0 g c =
     let before = c.args.id.base - 1 in
     let old = c.loop-at.entries.items in
     let new = c.read_piece.new.entries.items in
-    let most = length c.deref_mut.result.now in
     record {
       looks = λ t. looks_then (view c.args.disk.now) (view c.loop-at.disk) (view c.read_piece.new.disk) (g.met.D.Disk.sound c.args.disk.now t) (c.loop-at.invariant.looks t) (c.read_piece.ensures.told t);
       faults = omega (arith, c.loop-at.invariant.faults, c.read_piece.ensures.cause.later);
@@ -77,8 +60,8 @@ loop-at-preserved-then-behind-gt0 g c =
       measured = omega (arith, c.loop-at.invariant.measured, subst (IsMeasured (length old) (length new)) c.in-Rest.is c.in_ok-behind.ensures.measured);
       scanned = λ t bytes reads.
           let now = reads_still (view c.args.disk.now) (view c.loop-at.disk) (place c.args.name.now c.args.id) bytes (c.loop-at.invariant.looks t) reads in
-          scanned_more bytes before old new c.loop-at.at (c.loop-at.invariant.scanned t bytes reads) most c.in-Rest.behind
-          (subst (λ (w : Walked). ReadsPiece (drop c.loop-at.at bytes) most (before + length old) old new w) c.in-Rest.is (c.in_ok-behind.ensures.reads t bytes now));
+          scanned_more bytes before old new c.loop-at.at (c.loop-at.invariant.scanned t bytes reads) c.in-Rest.behind
+          (subst (λ (w : Walked). ReadsPiece (drop c.loop-at.at bytes) (before + length old) old new w) c.in-Rest.is (c.in_ok-behind.ensures.reads t bytes now));
     }
 
 pub loop-at-preserved : goal.loop-at-preserved
@@ -87,7 +70,6 @@ loop-at-preserved g c =
     let before = c.args.id.base - 1 in
     let old = c.loop-at.entries.items in
     let new = c.read_piece.new.entries.items in
-    let most = length c.deref_mut.result.now in
     let none : c.in-Rest.behind ≡ 0 = omega (arith, c.if-behind-gt0.false) in
     record {
       looks = λ t. looks_then (view c.args.disk.now) (view c.loop-at.disk) (view c.read_piece.new.disk) (g.met.D.Disk.sound c.args.disk.now t) (c.loop-at.invariant.looks t) (c.read_piece.ensures.told t);
@@ -99,8 +81,8 @@ loop-at-preserved g c =
       scanned = λ t bytes reads.
           let now = reads_still (view c.args.disk.now) (view c.loop-at.disk) (place c.args.name.now c.args.id) bytes (c.loop-at.invariant.looks t) reads in
           subst (λ (k : ℕ). ScannedTo bytes before new k) (omega (arith, none))
-          (scanned_more bytes before old new c.loop-at.at (c.loop-at.invariant.scanned t bytes reads) most c.in-Rest.behind
-          (subst (λ (w : Walked). ReadsPiece (drop c.loop-at.at bytes) most (before + length old) old new w) c.in-Rest.is (c.in_ok-behind.ensures.reads t bytes now)));
+          (scanned_more bytes before old new c.loop-at.at (c.loop-at.invariant.scanned t bytes reads) c.in-Rest.behind
+          (subst (λ (w : Walked). ReadsPiece (drop c.loop-at.at bytes) (before + length old) old new w) c.in-Rest.is (c.in_ok-behind.ensures.reads t bytes now)));
     }
 
 pub returns-clause-frames : goal.returns-clause-frames
@@ -113,9 +95,6 @@ returns-in-Gate-clause-numbered g c = c.in_ok-behind.ensures.numbered c.loop-at.
 
 pub returns-in-Damaged-clause-numbered : goal.returns-in-Damaged-clause-numbered
 returns-in-Damaged-clause-numbered g c = c.in_ok-behind.ensures.numbered c.loop-at.invariant.numbered
-
-pub returns-else-end-at-clause-numbered : goal.returns-else-end-at-clause-numbered
-returns-else-end-at-clause-numbered g c = c.in_ok-behind.ensures.numbered c.loop-at.invariant.numbered
 
 pub returns-clause-numbered : goal.returns-clause-numbered
 returns-clause-numbered g c = c.loop-at.invariant.numbered

@@ -1,4 +1,4 @@
-use Rattle.std.proofs.Common.{◌-◌, refl, sym, subst, arith}
+use Rattle.std.proofs.Common.{◌-◌, sym, subst, arith}
 use Rattle.std.proofs.lemmas.Result.{err_from_is_err_and}
 use Rattle.disk_model.specs.Image.{place}
 use Rattle.segment_files.specs.declared.reading.Contents.{Contents}
@@ -20,27 +20,27 @@ read_frames-requires-clause-end g c = λ t bytes reads.
     let view = g.D.Disk.view in
     c.in_ok-end.ensures.length t bytes (read_before (view c.args.disk.now) (view c.length.new.self) (place c.args.name.now c.args.id) bytes (c.in_ok-end.ensures.told t) reads)
 
-pub returns-in_err-read_frames-clause-found : goal.returns-in_err-read_frames-clause-found
-returns-in_err-read_frames-clause-found g c =
-    let p = err_from_is_err_and c.from_residual-in_err-read_frames.result c.from_residual-in_err-read_frames.ensures.1 in
-    rw (p.1, p.2) (λ t bytes reads head. other_fault (parse c.args.id bytes) c.in_err-read_frames.field-0.0 c.in_err-read_frames.ensures.no_damage)
+pub returns-in_err-at-clause-found : goal.returns-in_err-at-clause-found
+returns-in_err-at-clause-found g c =
+    let p = err_from_is_err_and c.from_residual-in_err-at.result c.from_residual-in_err-at.ensures.1 in
+    rw (p.1, p.2) (λ t bytes reads head. other_fault (parse c.args.id bytes) c.in_err-at.field-0.0 c.in_err-at.ensures.no_damage)
 
-pub returns-in_err-read_frames-clause-told : goal.returns-in_err-read_frames-clause-told
-returns-in_err-read_frames-clause-told g c = λ t.
+pub returns-in_err-at-clause-told : goal.returns-in_err-at-clause-told
+returns-in_err-at-clause-told g c = λ t.
     let view = g.D.Disk.view in
     looks_then (view c.args.disk.now) (view c.length.new.self) (view c.read_frames.new.disk) (g.met.D.Disk.sound c.args.disk.now t) (c.in_ok-end.ensures.told t) (c.read_frames.ensures.told t)
 
-pub returns-in_err-read_frames-clause-cause : goal.returns-in_err-read_frames-clause-cause
-returns-in_err-read_frames-clause-cause g c =
-    let p = err_from_is_err_and c.from_residual-in_err-read_frames.result c.from_residual-in_err-read_frames.ensures.1 in
+pub returns-in_err-at-clause-cause : goal.returns-in_err-at-clause-cause
+returns-in_err-at-clause-cause g c =
+    let p = err_from_is_err_and c.from_residual-in_err-at.result c.from_residual-in_err-at.ensures.1 in
     let faults = g.D.Disk.faults in
-    rw (p.1, p.2) (cause_passed {T = Frames} {U = Contents} (faults c.args.disk.now) (faults c.length.new.self) (faults c.read_frames.new.disk) c.in_err-read_frames.field-0.0 c.in_ok-end.ensures.cause.later c.in_err-read_frames.ensures.cause)
+    rw (p.1, p.2) (cause_passed {T = Frames} {U = Contents} (faults c.args.disk.now) (faults c.length.new.self) (faults c.read_frames.new.disk) c.in_err-at.field-0.0 c.in_ok-end.ensures.cause.later c.in_err-at.ensures.cause)
 
 pub returns-in-Damaged-clause-found : goal.returns-in-Damaged-clause-found
 returns-in-Damaged-clause-found g c = λ t bytes reads head.
     let view = g.D.Disk.view in
     let now = reads_still (view c.args.disk.now) (view c.length.new.self) (place c.args.name.now c.args.id) bytes (c.in_ok-end.ensures.told t) reads in
-    (refl, bad_frames c.args.id bytes head.0 head.2 (subst (λ (f : Frames). HasFrames bytes (c.args.id.base - 1) c.read_frames.new.entries.items f) c.in-Damaged.is (c.in_ok-read_frames.ensures.frames t bytes now)))
+    bad_frames c.args.id bytes head.0 head.2 c.read_frames.new.entries.items c.in-Damaged.at (subst (λ (f : Frames). HasFrames bytes (c.args.id.base - 1) c.read_frames.new.entries.items f) c.in-Damaged.is (c.in_ok-at.ensures.frames t bytes now))
 
 pub returns-in-Damaged-clause-told : goal.returns-in-Damaged-clause-told
 returns-in-Damaged-clause-told g c = λ t.
@@ -57,7 +57,7 @@ returns-clause-found g c = λ t bytes reads head.
     let view = g.D.Disk.view in
     let entries = c.read_frames.new.entries in
     let now = reads_still (view c.args.disk.now) (view c.length.new.self) (place c.args.name.now c.args.id) bytes (c.in_ok-end.ensures.told t) reads in
-    let frames = subst (λ (f : Frames). HasFrames bytes (c.args.id.base - 1) entries.items f) c.in-End.is (c.in_ok-read_frames.ensures.frames t bytes now) in
+    let frames = subst (λ (f : Frames). HasFrames bytes (c.args.id.base - 1) entries.items f) c.in-End.is (c.in_ok-at.ensures.frames t bytes now) in
     let part = is_part c.args.id bytes head.0 head.2 entries.items c.in-End.gate frames c.args.descriptor head.1 in
     subst (λ (f : Found). IsContents c.args.id f (Open c.args.descriptor entries c.in-End.gate)) (sym part.1) (part.2, part.3)
 

@@ -39,13 +39,11 @@ pub returns-in-Err-clause-damaged : goal.returns-in-Err-clause-damaged
 returns-in-Err-clause-damaged g c = λ base generation at is.
     let e : c.in-Err.error ≡ Damaged base generation at = cc in
     let told = c.look.ensures.damaged base generation at (c.in-Err.is ∙ ap Err e) in
-    let lt : c.loop-id.id-index < length c.args.ids.now = omega (arith, c.loop-id-test.true) in (
-      told.0.2,
-      λ t. subst (λ (i : FileId). IsFirstDamaged (folder c.args.name.now (g.D.Disk.view c.args.disk.now).reading) i)
-          (found_id base generation at (get_or c.args.ids.now c.loop-id.id-index no_id) told.0.0 told.0.1)
-          (damaged_first (g.D.Disk.view c.args.disk.now) (g.D.Disk.view c.loop-id.disk) c.args.name.now c.args.ids.now (c.requires.lists t) (c.loop-id.invariant.reading t) c.loop-id.id-index no_id lt
-          c.loop-id.found.closed.items c.loop-id.found.opened (c.loop-id.invariant.survey t).0 c.is_some.result c.is_some.ensures (told.1 t)),
-    )
+    let lt : c.loop-id.id-index < length c.args.ids.now = omega (arith, c.loop-id-test.true) in
+    λ t. subst (λ (i : FileId). IsFirstDamaged (folder c.args.name.now (g.D.Disk.view c.args.disk.now).reading) i at)
+    (found_id base generation (get_or c.args.ids.now c.loop-id.id-index no_id) told.0.0 told.0.1)
+    (damaged_first (g.D.Disk.view c.args.disk.now) (g.D.Disk.view c.loop-id.disk) c.args.name.now c.args.ids.now (c.requires.lists t) (c.loop-id.invariant.reading t) c.loop-id.id-index no_id lt
+    c.loop-id.found.closed.items c.loop-id.found.opened (c.loop-id.invariant.survey t).0 c.is_some.result at c.is_some.ensures (told.1 t))
 
 pub returns-in-Err-clause-any_moment : goal.returns-in-Err-clause-any_moment
 returns-in-Err-clause-any_moment g c = λ t. left_further (g.D.Disk.view c.args.disk.now) (g.D.Disk.view c.loop-id.disk) (g.D.Disk.view c.look.new.disk) (g.met.D.Disk.sound c.loop-id.disk t) (c.loop-id.invariant.left t) (c.look.ensures.any_moment t)

@@ -46,5 +46,5 @@ returns-in-Ok-clause-lies g c = λ t.
     lies_so (g.D.Disk.view c.args.disk) (g.D.Disk.view c.load.new.disk) c.args.name.now c.in-Ok.parts c.in-Ok.ensures.name (c.in-Ok.ensures.choice t) (c.in-Ok.ensures.greatest t)
 
 pub returns-in-Ok-clause-faultless : goal.returns-in-Ok-clause-faultless
-returns-in-Ok-clause-faultless g c = λ t id fault.
-    none_at_fault (g.D.Disk.view c.args.disk) (g.D.Disk.view c.load.new.disk) c.args.name.now c.in-Ok.parts.tail c.in-Ok.parts.greatest id (c.in-Ok.ensures.fits t) (c.in-Ok.ensures.choice t) fault
+returns-in-Ok-clause-faultless g c = λ t id at fault.
+    none_at_fault (g.D.Disk.view c.args.disk) (g.D.Disk.view c.load.new.disk) c.args.name.now c.in-Ok.parts.tail c.in-Ok.parts.greatest id at (c.in-Ok.ensures.fits t) (c.in-Ok.ensures.choice t) fault

@@ -65,8 +65,8 @@ returns-in-Ok-clause-lies g c =
 
 pub returns-in-Ok-clause-faultless : goal.returns-in-Ok-clause-faultless
 returns-in-Ok-clause-faultless g c =
-    subst (λ (h : Seen g.row.D.Denot g.row.M.Denot). IsTrue g.D.Disk.tells → (id : FileId) → IsFault (folder h.parts.name (g.D.Disk.view h.disk).reading) id → ⊥) c.self.view_is
-    (λ t id fault. none_at_fault (g.D.Disk.view c.self.inside.disk) (g.D.Disk.view c.load.new.disk) c.self.inside.parts.name c.in-Ok.parts.tail c.in-Ok.parts.greatest id (c.in-Ok.ensures.fits t) (c.in-Ok.ensures.choice t) fault)
+    subst (λ (h : Seen g.row.D.Denot g.row.M.Denot). IsTrue g.D.Disk.tells → (id : FileId) (at : ℕ) → IsFault (folder h.parts.name (g.D.Disk.view h.disk).reading) id at → ⊥) c.self.view_is
+    (λ t id at fault. none_at_fault (g.D.Disk.view c.self.inside.disk) (g.D.Disk.view c.load.new.disk) c.self.inside.parts.name c.in-Ok.parts.tail c.in-Ok.parts.greatest id at (c.in-Ok.ensures.fits t) (c.in-Ok.ensures.choice t) fault)
 
 pub returns-in-Ok-clause-leaves : goal.returns-in-Ok-clause-leaves
 returns-in-Ok-clause-leaves g c =
@@ -84,8 +84,8 @@ returns-in-Err-clause-leaves g c =
 
 pub returns-in-Ok-clause-unharmed : goal.returns-in-Ok-clause-unharmed
 returns-in-Ok-clause-unharmed g c =
-    subst (λ (h : Seen g.row.D.Denot g.row.M.Denot). IsTrue g.D.Disk.tells → (id : FileId) → IsFault (folder h.parts.name (g.D.Disk.view h.disk).reading) id → ((g.D.Disk.view c.load.new.disk).reading ≡ (g.D.Disk.view h.disk).reading) × LeavesAt (g.D.Disk.view h.disk) (g.D.Disk.view c.load.new.disk) (MayHold (g.D.Disk.view h.disk))) c.self.view_is
-    (λ t id fault. c.load.ensures.unharmed t id fault)
+    subst (λ (h : Seen g.row.D.Denot g.row.M.Denot). IsTrue g.D.Disk.tells → (id : FileId) (at : ℕ) → IsFault (folder h.parts.name (g.D.Disk.view h.disk).reading) id at → ((g.D.Disk.view c.load.new.disk).reading ≡ (g.D.Disk.view h.disk).reading) × LeavesAt (g.D.Disk.view h.disk) (g.D.Disk.view c.load.new.disk) (MayHold (g.D.Disk.view h.disk))) c.self.view_is
+    (λ t id at fault. c.load.ensures.unharmed t id at fault)
 
 pub returns-in-Ok-clause-empty : goal.returns-in-Ok-clause-empty
 returns-in-Ok-clause-empty g c =
@@ -94,8 +94,8 @@ returns-in-Ok-clause-empty g c =
 
 pub returns-in-Err-clause-unharmed : goal.returns-in-Err-clause-unharmed
 returns-in-Err-clause-unharmed g c =
-    subst (λ (h : Seen g.row.D.Denot g.row.M.Denot). IsTrue g.D.Disk.tells → (id : FileId) → IsFault (folder h.parts.name (g.D.Disk.view h.disk).reading) id → ((g.D.Disk.view c.load.new.disk).reading ≡ (g.D.Disk.view h.disk).reading) × LeavesAt (g.D.Disk.view h.disk) (g.D.Disk.view c.load.new.disk) (MayHold (g.D.Disk.view h.disk))) c.self.view_is
-    (λ t id fault. c.load.ensures.unharmed t id fault)
+    subst (λ (h : Seen g.row.D.Denot g.row.M.Denot). IsTrue g.D.Disk.tells → (id : FileId) (at : ℕ) → IsFault (folder h.parts.name (g.D.Disk.view h.disk).reading) id at → ((g.D.Disk.view c.load.new.disk).reading ≡ (g.D.Disk.view h.disk).reading) × LeavesAt (g.D.Disk.view h.disk) (g.D.Disk.view c.load.new.disk) (MayHold (g.D.Disk.view h.disk))) c.self.view_is
+    (λ t id at fault. c.load.ensures.unharmed t id at fault)
 
 pub returns-in-Err-clause-empty : goal.returns-in-Err-clause-empty
 returns-in-Err-clause-empty g c =
@@ -105,14 +105,12 @@ returns-in-Err-clause-empty g c =
 pub returns-in-Err-clause-damaged : goal.returns-in-Err-clause-damaged
 returns-in-Err-clause-damaged g c = λ base generation at err.
     let e : c.in-Err.error ≡ Is_damaged base generation at = cc err in
-    let damaged = c.load.ensures.damaged base generation at (c.in-Err.is ∙ ap Err e) in (
-      damaged.0,
-      subst (λ (h : Seen g.row.D.Denot g.row.M.Denot). IsTrue g.D.Disk.tells → IsFault (folder h.parts.name (g.D.Disk.view h.disk).reading) (id_from base generation) × ((g.D.Disk.view c.load.new.disk).reading ≡ (g.D.Disk.view h.disk).reading)) c.self.view_is damaged.1,
-    )
+    let damaged = c.load.ensures.damaged base generation at (c.in-Err.is ∙ ap Err e) in
+    subst (λ (h : Seen g.row.D.Denot g.row.M.Denot). IsTrue g.D.Disk.tells → IsFault (folder h.parts.name (g.D.Disk.view h.disk).reading) (id_from base generation) at × ((g.D.Disk.view c.load.new.disk).reading ≡ (g.D.Disk.view h.disk).reading)) c.self.view_is damaged
 
 pub returns-in-Err-clause-undamaged : goal.returns-in-Err-clause-undamaged
 returns-in-Err-clause-undamaged g c = λ base generation at err.
     let e : c.in-Err.error ≡ Is_damaged base generation at = cc err in
     let damaged = c.load.ensures.damaged base generation at (c.in-Err.is ∙ ap Err e) in
     subst (λ (h : Seen g.row.D.Denot g.row.M.Denot). IsTrue g.D.Disk.tells → h.stopped ≡ false → ⊥) c.self.view_is
-    (λ t runs. fits_no_fault (g.D.Disk.view c.self.inside.disk) c.self.inside.parts.name c.self.inside.parts.tail c.self.inside.parts.greatest (id_from base generation) (c.self.invariant.fits runs t) (damaged.1 t).0)
+    (λ t runs. fits_no_fault (g.D.Disk.view c.self.inside.disk) c.self.inside.parts.name c.self.inside.parts.tail c.self.inside.parts.greatest (id_from base generation) at (c.self.invariant.fits runs t) (damaged t).0)

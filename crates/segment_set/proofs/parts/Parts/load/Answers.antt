@@ -2,6 +2,7 @@ use Rattle.std.proofs.Common.{◌≡◌, inl, List, Option, Err, sym, ap, subst,
 use Rattle.disk_model.specs.declared.file_id.FileId.{FileId}
 use Rattle.disk_model.specs.View.{LeavesAt}
 use Rattle.disk_model.specs.Calls.{Lists}
+use Rattle.segment_files.specs.Parse.{base_place}
 use Rattle.segment_files.specs.Folder.{Folder, folder, IsFault, IsFirstDamaged}
 use Rattle.segment_set.specs.declared.opened.Opened.{Opened}
 use Rattle.segment_set.specs.declared.opening.OpenError.TheVariants.{Damaged}
@@ -32,12 +33,10 @@ returns-in-Err-read_all-clause-damaged g c = λ base generation at is.
     let v0 = g.D.Disk.view c.args.disk.now in
     let v1 = g.D.Disk.view c.settle_all.new.disk in
     let e : c.in-Err-read_all.error ≡ Damaged base generation at = cc in
-    let told = c.read_all.ensures.damaged base generation at (c.in-Err-read_all.is ∙ ap Err e) in (
-      told.0,
-      λ t. (
-        inl (subst (λ (f : Folder). IsFirstDamaged f (id_from base generation)) (ap (folder c.args.name.now) (c.settle_all.ensures.reading t)) (told.1 t)),
-        c.read_all.ensures.reading t ∙ c.settle_all.ensures.reading t,
-      ),
+    let told = c.read_all.ensures.damaged base generation at (c.in-Err-read_all.is ∙ ap Err e) in
+    λ t. (
+      inl (subst (λ (f : Folder). IsFirstDamaged f (id_from base generation) at) (ap (folder c.args.name.now) (c.settle_all.ensures.reading t)) (told t)),
+      c.read_all.ensures.reading t ∙ c.settle_all.ensures.reading t,
     )
 
 pub returns-in-Err-read_all-clause-any_moment : goal.returns-in-Err-read_all-clause-any_moment
@@ -55,17 +54,16 @@ returns-in-Err-tail_of-clause-damaged g c = λ base generation at is.
     let name = c.args.name.now in
     let e : c.in-Err-tail_of.error ≡ Damaged base generation at = cc in
     let told = c.tail_of.ensures.damaged base generation at (c.in-Err-tail_of.is ∙ ap Err e) in
-    let found = c.in-Ok-read_all.found in (
-      told.2.2,
-      λ t. (
-        subst (λ (i : FileId). IsFault (folder name v0.reading) i) (found_id base generation at told.0.id told.2.0 told.2.1)
-            (unbased v0 v1 name c.in-Ok.ids.items found.closed.items told.0 (c.in-Ok.ensures.lists t) (c.settle_all.ensures.reading t)
-            (subst (λ (o : Option Opened). Surveyed (folder name v1.reading) c.in-Ok.ids.items found.closed.items (opened_id o)) told.1
-            (subst (λ (l : List FileId). Surveyed (folder name v1.reading) l found.closed.items (opened_id found.opened)) c.deref.ensures.value (c.in-Ok-read_all.ensures.surveyed t)))
-            (subst (λ (o : Option Opened). OpenedIs (folder name v1.reading) o) told.1 (c.in-Ok-read_all.ensures.opened t))
-            told.3),
-        c.read_all.ensures.reading t ∙ c.settle_all.ensures.reading t,
-      ),
+    let found = c.in-Ok-read_all.found in
+    λ t. (
+      subst (IsFault (folder name v0.reading) (id_from base generation)) (sym told.3)
+          (subst (λ (i : FileId). IsFault (folder name v0.reading) i base_place) (found_id base generation told.0.id told.2.0 told.2.1)
+          (unbased v0 v1 name c.in-Ok.ids.items found.closed.items told.0 (c.in-Ok.ensures.lists t) (c.settle_all.ensures.reading t)
+          (subst (λ (o : Option Opened). Surveyed (folder name v1.reading) c.in-Ok.ids.items found.closed.items (opened_id o)) told.1
+          (subst (λ (l : List FileId). Surveyed (folder name v1.reading) l found.closed.items (opened_id found.opened)) c.deref.ensures.value (c.in-Ok-read_all.ensures.surveyed t)))
+          (subst (λ (o : Option Opened). OpenedIs (folder name v1.reading) o) told.1 (c.in-Ok-read_all.ensures.opened t))
+          told.4)),
+      c.read_all.ensures.reading t ∙ c.settle_all.ensures.reading t,
     )
 
 pub returns-in-Err-tail_of-clause-any_moment : goal.returns-in-Err-tail_of-clause-any_moment
@@ -230,35 +228,35 @@ returns-clause-empty g c = λ t empty.
     (g.met.D.Disk.sound c.settle_all.new.disk t) (g.met.D.Disk.sound c.read_all.new.disk t) (g.met.D.Disk.sound c.remove_all.new.disk t) empty
 
 pub returns-in-Err-clause-unharmed : goal.returns-in-Err-clause-unharmed
-returns-in-Err-clause-unharmed g c = λ t id fault. (c.settle_all.ensures.reading t, c.settle_all.ensures.any_moment t)
+returns-in-Err-clause-unharmed g c = λ t id at fault. (c.settle_all.ensures.reading t, c.settle_all.ensures.any_moment t)
 
 pub returns-in-Err-read_all-clause-unharmed : goal.returns-in-Err-read_all-clause-unharmed
-returns-in-Err-read_all-clause-unharmed g c = λ t id fault. (
+returns-in-Err-read_all-clause-unharmed g c = λ t id at fault. (
   c.read_all.ensures.reading t ∙ c.settle_all.ensures.reading t,
   left_further (g.D.Disk.view c.args.disk.now) (g.D.Disk.view c.settle_all.new.disk) (g.D.Disk.view c.read_all.new.disk) (g.met.D.Disk.sound c.settle_all.new.disk t) (c.settle_all.ensures.any_moment t) (c.read_all.ensures.any_moment t),
 )
 
 pub returns-in-Err-tail_of-clause-unharmed : goal.returns-in-Err-tail_of-clause-unharmed
-returns-in-Err-tail_of-clause-unharmed g c = λ t id fault. (
+returns-in-Err-tail_of-clause-unharmed g c = λ t id at fault. (
   c.read_all.ensures.reading t ∙ c.settle_all.ensures.reading t,
   left_further (g.D.Disk.view c.args.disk.now) (g.D.Disk.view c.settle_all.new.disk) (g.D.Disk.view c.read_all.new.disk) (g.met.D.Disk.sound c.settle_all.new.disk t) (c.settle_all.ensures.any_moment t) (c.read_all.ensures.any_moment t),
 )
 
 pub returns-in-Ok-remove_all-clause-unharmed : goal.returns-in-Ok-remove_all-clause-unharmed
-returns-in-Ok-remove_all-clause-unharmed g c = λ t id fault.
+returns-in-Ok-remove_all-clause-unharmed g c = λ t id at fault.
     let v0 = g.D.Disk.view c.args.disk.now in
     let v1 = g.D.Disk.view c.settle_all.new.disk in
     let found = c.in-Ok-read_all.found in
-    absurd (surveyed_no_fault v0 v1 c.args.name.now c.in-Ok.ids.items found.closed.items found.opened c.in-Ok-tail_of.tail id (c.in-Ok.ensures.lists t) (c.settle_all.ensures.reading t)
+    absurd (surveyed_no_fault v0 v1 c.args.name.now c.in-Ok.ids.items found.closed.items found.opened c.in-Ok-tail_of.tail id at (c.in-Ok.ensures.lists t) (c.settle_all.ensures.reading t)
     (subst (λ (l : List FileId). Surveyed (folder c.args.name.now v1.reading) l found.closed.items (opened_id found.opened)) c.deref.ensures.value (c.in-Ok-read_all.ensures.surveyed t))
     (c.in-Ok-read_all.ensures.opened t) c.in-Ok-tail_of.ensures.ok fault)
 
 pub returns-clause-unharmed : goal.returns-clause-unharmed
-returns-clause-unharmed g c = λ t id fault.
+returns-clause-unharmed g c = λ t id at fault.
     let v0 = g.D.Disk.view c.args.disk.now in
     let v1 = g.D.Disk.view c.settle_all.new.disk in
     let found = c.in-Ok-read_all.found in
-    absurd (surveyed_no_fault v0 v1 c.args.name.now c.in-Ok.ids.items found.closed.items found.opened c.in-Ok-tail_of.tail id (c.in-Ok.ensures.lists t) (c.settle_all.ensures.reading t)
+    absurd (surveyed_no_fault v0 v1 c.args.name.now c.in-Ok.ids.items found.closed.items found.opened c.in-Ok-tail_of.tail id at (c.in-Ok.ensures.lists t) (c.settle_all.ensures.reading t)
     (subst (λ (l : List FileId). Surveyed (folder c.args.name.now v1.reading) l found.closed.items (opened_id found.opened)) c.deref.ensures.value (c.in-Ok-read_all.ensures.surveyed t))
     (c.in-Ok-read_all.ensures.opened t) c.in-Ok-tail_of.ensures.ok fault)
 
