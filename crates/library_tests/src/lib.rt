@@ -20,9 +20,13 @@ mod event_batches_tests;
 #[cfg(test)]
 mod host_core_batch_tests;
 #[cfg(test)]
+mod host_core_expiry_tests;
+#[cfg(test)]
 mod host_core_tests;
 #[cfg(test)]
 mod host_types_tests;
+#[cfg(test)]
+mod kind_tests;
 #[cfg(test)]
 mod machine_tests;
 #[cfg(test)]

@@ -1,2 +1,3 @@
 mod Came
+mod Own
 mod Walk

@@ -35,7 +35,7 @@ listed_none pick q (e ∷ c) none = go (pick e) refl (listed_none pick q c none)
     go None t rest = skipped (q e) t rest
     go (Some w) t rest = ap (λ b. listed pick (cond b (e ∷ filter q c) (filter q c))) (none e w t) ∙ rest
 
-member_there : (m : ℕ) (e : Place × Held) (w : ℕ × Member) → pick_in m member_of e ≡ Some w → (e.0 ≡ Cell_at m (At w.0)) × (member_in w.0 e.1 ≡ Some w.1)
+pub member_there : (m : ℕ) (e : Place × Held) (w : ℕ × Member) → pick_in m member_of e ≡ Some w → (e.0 ≡ Cell_at m (At w.0)) × (member_in w.0 e.1 ≡ Some w.1)
 member_there m e w t = picked_there nat_cmp_total nat_cmp-IsAntisymmetric m member_of At member_in at_order (λ k h. refl) only_members e w t
 
 pub no_member_behind : (m : ℕ) (c : Cells) (session : ℕ) → members_above m c (Of session) ≡ []
@@ -82,16 +82,16 @@ one_fewer m c cell held next fewer = omega (arith, fewer)
 
 -- ---- one step of a walk
 
-none_left : {A : Type 0} (xs : List A) → xs ++ [] ≡ xs
+pub none_left : {A : Type 0} (xs : List A) → xs ++ [] ≡ xs
 none_left [] = refl
 none_left (x ∷ xs) = ap (λ l. x ∷ l) (none_left xs)
 
-joined : {A : Type 0} (xs ys zs : List A) → (xs ++ ys) ++ zs ≡ xs ++ (ys ++ zs)
+pub joined : {A : Type 0} (xs ys zs : List A) → (xs ++ ys) ++ zs ≡ xs ++ (ys ++ zs)
 joined [] ys zs = refl
 joined (x ∷ xs) ys zs = ap (λ l. x ∷ l) (joined xs ys zs)
 
 -- the member of a cell with those behind it
-abbrev seen_by : Option (ℕ × Member) → Option (ℕ × ℕ)
+abbrev pub seen_by : Option (ℕ × Member) → Option (ℕ × ℕ)
 seen_by o = option_map (λ e. (e.1.index, e.1.session)) o
 
 module _ (m : ℕ) (c : Cells) (cell : Cell) (held : Held) where
@@ -139,18 +139,6 @@ noted_full m c so_far next full are = sym (cut so_far 64 (indexes_of (members_fr
     cut [] (suc n) ys h = absurd (omega (arith, h))
     cut (x ∷ xs) zero ys h = absurd (omega (arith, h))
     cut (x ∷ xs) (suc n) ys h = ap (λ l. x ∷ l) (cut xs n ys (omega (arith, h)))
-
-abbrev pub AreGone : ℕ → Cells → ℕ → List ℕ → Option (Cell × Held) → Type 0
-AreGone m c session so_far next = so_far ++ indexes_of (members_of_session session (members_from m c next)) ≡ indexes_of (members_of_session session (members_in m c))
-
-pub gone_on : (m : ℕ) (c : Cells) (session : ℕ) (so_far : List ℕ) (cell : Cell) (held : Held) (next : Option (Cell × Held)) → members_from m c next ≡ members_above m c cell → AreGone m c session so_far (Some (cell, held)) → AreGone m c session (so_far ++ noted_of session (member_seen cell held)) next
-gone_on m c session so_far cell held next above are =
-    joined so_far (noted_of session (member_seen cell held)) (indexes_of (members_of_session session (members_from m c next)))
-    ∙ ap (λ ms. so_far ++ (noted_of session (member_seen cell held) ++ indexes_of (members_of_session session ms))) above
-    ∙ ap (λ (l : List ℕ). so_far ++ l) (sym (session_step m c cell held session)) ∙ are
-
-pub gone_all : (m : ℕ) (c : Cells) (session : ℕ) (so_far : List ℕ) → AreGone m c session so_far None → so_far ≡ indexes_of (members_of_session session (members_in m c))
-gone_all m c session so_far are = sym (none_left so_far) ∙ are
 
 -- ---- whether a session has a member
 
@@ -248,6 +236,14 @@ told_on m c name gone closed told cell held next above are =
     step (Pair key word) = refl
     step (At i) = refl
     step (Waiter a b) = refl
+
+pub told_none : (name gone : List ℕ) (closed : ℕ) (listeners : List ℕ) → true ≡ (length gone == 0) → to_others name gone closed listeners ≡ []
+told_none name [] closed listeners e = go (without_item nat_cmp closed listeners)
+  where
+    go : (others : List ℕ) → flat_map (told_left name []) others ≡ []
+    go [] = refl
+    go (other ∷ others) = go others
+told_none name (x ∷ gone) closed listeners e = absurd (let some = eqb-true (length (x ∷ gone)) 0 (sym e) in let no : ⊥ = omega (arith, some) in no)
 
 pub told_all : (m : ℕ) (c : Cells) (name gone : List ℕ) (closed : ℕ) (told : List (ℕ × Event)) → AreTold m c name gone closed told None → told ≡ to_others name gone closed (listeners_in m c)
 told_all m c name gone closed told are = sym (none_left told) ∙ are

@@ -1,5 +1,5 @@
 -- The members of a group by the indexes of their cells, and as they are walked.
-use Rattle.std.specs.Prelude.{ℕ, ◌==◌, cond, Bool, true, false, [], ◌∷◌, List, Option, Some, None, map}
+use Rattle.std.specs.Prelude.{ℕ, ◌+◌, ◌==◌, ◌++◌, cond, Bool, true, false, [], ◌∷◌, List, Option, Some, None, map}
 use Rattle.std.specs.List.{filter}
 use Rattle.std.specs.Option.{option_map, option_map_or}
 use Rattle.std.specs.Ordering.{nat_cmp, eq_by_cmp}
@@ -13,7 +13,7 @@ use Rattle.host_types.specs.Cells.{Held, Cells}
 use Rattle.host_types.specs.Ranges.{owner_number}
 use Rattle.log_model.specs.plain.Plain.{Member}
 use Rattle.log_model.specs.kinds.Reading.{gather, listed, pick_in, values, member_of, text_in}
-use Rattle.cell_table.specs.Lookups.{and_above, cells_above}
+use Rattle.cell_table.specs.Lookups.{and_above, cells_above, cells_from, owned_of}
 
 -- the members, as the group's plain form has them
 abbrev pub members_in : ℕ → Cells → List Member
@@ -45,6 +45,25 @@ noted (Some x) = x.0 ∷ []
 abbrev pub noted_of : ℕ → Option (ℕ × ℕ) → List ℕ
 noted_of session None = []
 noted_of session (Some x) = cond (x.1 == session) (x.0 ∷ []) []
+
+-- The cells among which the members of a session are: those that it owns. Members that nobody owns, of which no log has any, count as
+-- those of session 0.
+abbrev pub its_cells : ℕ → Cells → Cells
+its_cells session c = cond (session == 0) c (owned_of session c)
+
+-- the members from an index on
+abbrev pub members_on : ℕ → Cells → ℕ → List Member
+members_on m c k = values (listed (pick_in m member_of) (cells_from m (At k) c))
+
+-- the member of a cell that was found
+abbrev pub seen_in : Option (Cell × Held) → Option (ℕ × ℕ)
+seen_in None = None
+seen_in (Some x) = member_seen x.0 x.1
+
+-- of these cells the indexes of the session's members: the one that was found, and those behind it
+abbrev pub left_of : ℕ → Cells → ℕ → Option (ℕ × ℕ) → List ℕ
+left_of m c session None = []
+left_of m c session (Some w) = noted_of session (Some w) ++ indexes_of (members_of session (members_on m c (w.0 + 1)))
 
 -- a cell that was found, unless it is a listener's
 abbrev pub is_listening : Cell → Bool

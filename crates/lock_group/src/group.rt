@@ -186,6 +186,7 @@ fn tells(
 }
 
 fn tells_close(table: &CellTable, alloc: Global, name: &Key, owner: Index) -> Result<Told, NoMemory>
+    requires { table.now.kind ≡ Group }
     ensures { IfOk result (λ told. told ≡ (without_session name.now owner (Group_is (members_in table.now.instance table.now.cells) (listeners_in table.now.instance table.now.cells))).1) }
 {
     let gone = members_of(table, alloc, owner)?;

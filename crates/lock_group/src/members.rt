@@ -1,12 +1,14 @@
 // The members of a group, one after the other.
-ghost use Rattle.std.specs.Prelude.{◌≡◌, ◌≤◌, ◌<◌, ◌+◌, ℕ, ◌++◌, length, take, IfOk, OnOk};
+ghost use Rattle.std.specs.Prelude.{◌≡◌, ◌≤◌, ◌<◌, ◌+◌, ℕ, ◌++◌, length, take, IfOk, OnOk, IfSome};
 ghost use Rattle.std.specs.List.{list_any, flat_map};
 ghost use Rattle.std.specs.Option.{option_map};
 ghost use Rattle.std.specs.Ordering.{nat_cmp};
-ghost use Rattle.cell_table.specs.Lookups.{found, held_of, and_above, cells_above};
+ghost use Rattle.host_types.specs.declared.entry.Cell.TheVariants.{At};
+ghost use Rattle.host_types.specs.declared.entry.Kind.TheVariants.{Group};
+ghost use Rattle.cell_table.specs.Lookups.{found, held_of, and_above, cells_above, cells_from};
 ghost use Rattle.log_model.specs.plain.Plain.{head_of, without_item};
 ghost use Rattle.log_model.specs.kinds.Reading.{listeners_in};
-ghost use Rattle.lock_group.specs.Members.{members_in, members_from, members_above, member_seen, indexes_of, members_of, noted, noted_of, before_listeners, is_of_session, told_left, told_by_cell};
+ghost use Rattle.lock_group.specs.Members.{members_in, members_from, members_above, member_seen, indexes_of, members_of, noted, noted_of, before_listeners, is_of_session, its_cells, members_on, seen_in, left_of, told_left, told_by_cell};
 
 use cell_table::{CellTable, Standing};
 use host_types::{Cell, Content, Event, Index, Indexes, Key, NoMemory};
@@ -147,19 +149,59 @@ fn note_gone(
     Ok(())
 }
 
-/// The members of a session.
+// The first of the session's cells at this one or above it. Members that nobody owns, of which no log has any, count as those of
+// session 0.
+fn first_of<'a>(table: &'a CellTable, session: Index, from: &Cell) -> Option<Standing<'a>>
+    ensures { cells_from table.now.instance from.now (its_cells session table.now.cells) ≡ and_above table.now.instance (its_cells session table.now.cells) (found result) }
+{
+    if session == 0 {
+        table.first_from(from)
+    } else {
+        table.first_owned(session, from)
+    }
+}
+
+fn seen_in(standing: Option<Standing<'_>>) -> Option<(Index, Index)>
+    ensures { result ≡ seen_in (found standing.entry) }
+{
+    match standing {
+        Some(standing) => member_of(standing),
+        None => None,
+    }
+}
+
+// The first member of the session at this index or above it, by its index and its session.
+fn member_from(table: &CellTable, session: Index, from: Index) -> Option<(Index, Index)>
+    requires { table.now.kind ≡ Group }
+    ensures members { left_of table.now.instance (its_cells session table.now.cells) session result ≡ indexes_of (members_of session (members_on table.now.instance (its_cells session table.now.cells) from)) }
+    ensures fewer { IfSome result (λ w. length (cells_from table.now.instance (At (w.0 + 1)) (its_cells session table.now.cells)) < length (cells_from table.now.instance (At from) (its_cells session table.now.cells))) }
+{
+    table.in_order();
+    let cell = Cell::At(from);
+    let first = seen_in(first_of(table, session, &cell));
+    drop(cell);
+    first
+}
+
+/// The members of a session. Where it has none, that is seen by one look-up. No index is too great for the next one: no log has such
+/// an index.
 pub(crate) fn members_of(
     table: &CellTable,
     alloc: Global,
     session: Index,
 ) -> Result<Vec<Index>, NoMemory>
+    requires { table.now.kind ≡ Group }
     ensures { IfOk result (λ gone. gone.items ≡ indexes_of (members_of session (members_in table.now.instance table.now.cells))) }
 {
+    table.in_order();
     let mut gone = Vec::new(alloc);
-    let mut next = first_member(table);
-    while let Some(standing) = next {
-        note_gone(&mut gone, member_of(standing), session)?;
-        next = member_above(table, standing.cell);
+    let mut next = member_from(table, session, 0);
+    while let Some((index, _)) = next {
+        note_gone(&mut gone, next, session)?;
+        match index.checked_add(1) {
+            Some(from) => next = member_from(table, session, from),
+            None => return Err(NoMemory),
+        }
     }
     Ok(gone)
 }
@@ -203,7 +245,7 @@ fn tell_by_cell(
     }
 }
 
-/// That these members of the closed session left, for each other listener, by rising session.
+/// That these members of the closed session left, for each other listener, by rising session. Where none left, nobody is looked for.
 pub(crate) fn tell_others(
     table: &CellTable,
     alloc: Global,
@@ -215,6 +257,9 @@ pub(crate) fn tell_others(
 {
     table.in_order();
     let mut told = Told::new(alloc);
+    if gone.is_empty() {
+        return Ok(told);
+    }
     let least = Cell::Of(0);
     let mut next = table.first_from(&least);
     drop(least);
