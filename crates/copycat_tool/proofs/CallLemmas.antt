@@ -19,7 +19,7 @@ use Rattle.segment_files.specs.Folder.{folder, Stands}
 use Rattle.segment_set.specs.Fits.{IsEmptyWhereNone}
 use Rattle.log_model.specs.plain.Admission.{Item, Offered, Expired, Admission, Admitted, Repeats, Refused, admits, first_refusal, refused_if, Expiry, Expires, Nobody, Not_now, expires}
 use Rattle.log_model.specs.plain.Fitting.{ItemFits}
-use Rattle.log_model.specs.hosted.Hosted.{Hosted, hosted_admits, hosted_entry, hosted_expires, hosted_folded, hosted_told}
+use Rattle.log_model.specs.hosted.Hosted.{Hosted, choice_body, hosted_admits, hosted_choice, hosted_entry, hosted_expires, hosted_folded, hosted_told}
 use Rattle.log_model.specs.cleaning.Layout.{Layout, alone, needs_file, with_entry}
 use Rattle.log_model.specs.hosted.Machines.{LogsAreSound}
 use Rattle.log_model.specs.hosted.PlainMachine.{HostsArePlain, IsAsPlain}
@@ -28,7 +28,14 @@ use Rattle.log_model.specs.plain.Plain.{Session}
 use Rattle.log_model.specs.replay.Replay.{pushed, replay_batches, replay_entry}
 use Rattle.log_model.specs.plain.Step.{events_of, folded}
 use Rattle.log_model.specs.plain.Stored.{entry_of, is_admission, is_admitted, is_expiry_of}
+use Rattle.host_types.specs.Decision.{Choice, Decides, Declines, MachineDecision}
+use Rattle.host_types.specs.declared.entry.Ask.{Ask}
+use Rattle.host_types.specs.declared.entry.Ask.TheVariants.{Register, Alive, Unregister, Tick, Command}
+use Rattle.log_model.specs.serving.Positions.{Position, acked_positions, confirmed_after, confirmed_asked, event_at}
+use Rattle.session_table.specs.Table.{Beside, ConfirmsAcked, confirmed_positions}
+use Rattle.host_core.specs.Entering.{beside_after}
 use Rattle.host_core.specs.Seen.{hosted}
+use Rattle.host_core.proofs.Confirming.{confirmed_entered, entered}
 use Rattle.host_recovery.specs.Lying.{LiesAlone}
 use Rattle.host_recovery.specs.Seen.{Seen}
 use Rattle.host_recovery.specs.Standing.{IsLog as HostIsLog, StandsAt, StandsFor as HostStandsFor, StandsOrGains, StandsOrTakes, StandsOrExpires, layout_in}
@@ -49,9 +56,12 @@ use Rattle.copycat_tool.specs.declared.ending.Ending.TheVariants.{DiskFault, NoM
 use Rattle.copycat_tool.specs.Calls.{HasFewer, IsExpiring, IsTold, change_of, expiry_told, offer_told, printed_of}
 use Rattle.copycat_tool.specs.Logs.{IsLog, StandsFor}
 use Rattle.copycat_tool.specs.Report.{Run, Act, Change, Nothing, Stores, admission, admits_file, answer_by, changed, expired_answer, expiry, expiry_in, reopening, Reopens, stored_as}
-use Rattle.copycat_tool.specs.Runs.{Files, StandsEither}
+use Rattle.copycat_tool.specs.Runs.{BeginsAcked, Files, StandsEither}
+use Rattle.copycat_tool.specs.Taking.{HasClients, client_of}
+use Rattle.copycat_tool.specs.declared.clients.Clients.{Clients}
 use Rattle.copycat_tool.specs.Standing.{IsAt, IsCut, IsMade}
 use Rattle.copycat_tool.proofs.LogLemmas.{due_session, expires_when, fewer_due, id_past, logged_more}
+use Rattle.copycat_tool.proofs.Offering.{offers_nothing, reopened_offered, stored_offered}
 use Rattle.copycat_tool.proofs.TurnLemmas.{made_nothing}
 
 -- what a host that stands at a log says of its files and of its state
@@ -61,6 +71,25 @@ pub record Keeps {D : Type 0} (view : D → View) (h : Seen D Parts) : Type 0 wh
   pub last : (items : List Item) → StandsAt catalog_decision view cells_of h items → (hosted cells_of h.core).last ≡ length items
   pub layout : (items : List Item) → StandsAt catalog_decision view cells_of h items → LiesAlone h.parts.name (view h.disk).reading (alone (layout_in (view h.disk) h.parts))
   pub file : (items : List Item) → StandsAt catalog_decision view cells_of h items → needs_file (layout_in (view h.disk) h.parts) ≡ is_none h.parts.tail
+
+-- what the sessions have confirmed, once an item is stored
+confirmed_stored : (d : MachineDecision) (s : Hosted) (i : ℕ) (item : Item) (bs : List Beside) → confirmed_positions (beside_after i (hosted_entry d s item).body bs) ≡ confirmed_after i item (confirmed_positions bs)
+confirmed_stored d s i item bs = confirmed_entered i (hosted_entry d s item).body bs ∙ by item
+  where
+    commanded : (session seq : ℕ) (choice : Choice) → entered i (choice_body session seq choice) (confirmed_positions bs) ≡ confirmed_positions bs
+    commanded session seq (Decides effect reply) = refl
+    commanded session seq (Declines refusal) = refl
+
+    of : (time : ℕ) (ask : Ask) → entered i (hosted_entry d s (Offered (record { time = time; ask = ask }))).body (confirmed_positions bs) ≡ confirmed_asked i ask (confirmed_positions bs)
+    of time (Register timeout) = refl
+    of time (Alive session seq event) = refl
+    of time (Unregister session) = refl
+    of time Tick = refl
+    of time (Command session seq name op) = commanded session seq (hosted_choice d s session name op)
+
+    by : (item : Item) → entered i (hosted_entry d s item).body (confirmed_positions bs) ≡ confirmed_after i item (confirmed_positions bs)
+    by (Offered o) = of o.time o.ask
+    by (Expired time session) = refl
 
 module _ (law : HostsArePlain catalog_decision) where
   pub as_model : (log : List Item) → IsLog log → IsAsPlain catalog_decision log
@@ -84,14 +113,15 @@ module _ (law : HostsArePlain catalog_decision) where
   -- ---- where the host stands
 
   module _ {D : Type 0} (view : D → View) (files : Files) (h : Seen D Parts) (keeps : Keeps view h) (sound : IsSound (view h.disk)) where
-    pub is_at : (run : Run) → h.parts.name ≡ files.name → h.size ≡ files.size → StandsAt catalog_decision view cells_of h run.log → IsLog run.log → layout_in (view h.disk) h.parts ≡ run.layout → IsAt view files h run
-    is_at run name size stands logged layout = record {
+    pub is_at : (run : Run) → h.parts.name ≡ files.name → h.size ≡ files.size → StandsAt catalog_decision view cells_of h run.log → IsLog run.log → layout_in (view h.disk) h.parts ≡ run.layout → confirmed_positions h.core.sessions.beside ≡ run.confirmed → IsAt view files h run
+    is_at run name size stands logged layout confirmed = record {
       name_is = name;
       size_is = size;
       stands = stands;
       last_is = keeps.last run.log stands;
       layout_is = layout;
       file_is = sym (ap needs_file layout) ∙ keeps.file run.log stands;
+      confirmed_is = confirmed;
       rest = record {
         sound = sound;
         logged = logged;
@@ -101,6 +131,14 @@ module _ (law : HostsArePlain catalog_decision) where
             (subst (λ (n : List ℕ). LiesAlone n (view h.disk).reading (alone (layout_in (view h.disk) h.parts))) name (keeps.layout run.log stands));
       };
     }
+
+  -- its sessions are those of the log
+  pub sessions_are : {D : Type 0} (view : D → View) (files : Files) (h : Seen D Parts) (run : Run) → IsAt view files h run → h.core.sessions.sessions ≡ (folded run.log).sessions
+  sessions_are view files h run at = ap (λ (s : Hosted). s.sessions) (at.stands.state ∙ (as_model run.log at.rest.logged).same_fold)
+
+  -- the clients begin with what its sessions acknowledged
+  pub clients_begin : {D : Type 0} (view : D → View) (files : Files) (h : Seen D Parts) (run : Run) (clients : Clients) → IsAt view files h run → BeginsAcked run → ((id : ℕ) → client_of clients id ≡ event_at id id (acked_positions h.core.sessions.sessions)) → HasClients run clients
+  clients_begin view files h run clients at acked are id = are id ∙ ap (λ (xs : List Session). event_at id id (acked_positions xs)) (sessions_are view files h run at) ∙ ap (λ (ps : List Position). event_at id id ps) (sym acked)
 
   -- ---- an item more
 
@@ -131,8 +169,9 @@ module _ (law : HostsArePlain catalog_decision) where
       -- it was stored
       pub made_stored : (this : Act) → this.does ≡ Stores (item ∷ []) → StandsAt catalog_decision view cells_of new (run.log ++ item ∷ [])
           → layout_in (view new.disk) new.parts ≡ with_entry old.size (layout_in (view old.disk) old.parts)
+          → new.core.sessions.beside ≡ beside_after ((hosted cells_of old.core).last + 1) (hosted_entry catalog_decision (hosted cells_of old.core) item).body old.core.sessions.beside
           → LeavesOnly (view old.disk) (view new.disk) (StandsOrGains catalog_decision old.parts.name run.log item) → IsMade view files old new run this
-      made_stored this does stands layout moments = made (subst P (sym does) (there, only))
+      made_stored this does stands layout beside moments = made (subst P (sym does) (there, only))
         where
           next : Run
           next = changed files.size run (Stores (item ∷ []))
@@ -143,6 +182,7 @@ module _ (law : HostsArePlain catalog_decision) where
           there : IsAt view files new next
           there = is_at view files new keeps sound next (name_is ∙ at.name_is) (size_is ∙ at.size_is) stands more
               (layout ∙ (λ i. with_entry (at.size_is i) (at.layout_is i)))
+              (ap confirmed_positions beside ∙ confirmed_stored catalog_decision (hosted cells_of old.core) ((hosted cells_of old.core).last + 1) item old.core.sessions.beside ∙ (λ i. confirmed_after (at.last_is i + 1) item (at.confirmed_is i)))
 
           only : LeavesOnly (view old.disk) (view new.disk) (StandsEither files.name run.log next.log)
           only = gains old.parts.name files.name run.log item (view old.disk) (view new.disk) logged more at.name_is moments
@@ -151,7 +191,7 @@ module _ (law : HostsArePlain catalog_decision) where
           P change = IsAt view files new (changed files.size run change) × LeavesOnly (view old.disk) (view new.disk) (StandsEither files.name run.log (changed files.size run change).log)
 
           made : P this.does → IsMade view files old new run this
-          made both = record { at = both.0; any_moment = both.1 }
+          made both = record { at = both.0; any_moment = both.1; offered = offers_nothing files run this (Stores (item ∷ [])) (stored_offered files run (item ∷ [])) does }
 
       -- it was stored or not
       pub cut_stored : (ending : Ending) → (ending ≡ DiskFault) ⊎ (ending ≡ NoMemory) → IsEmptyWhereNone (view new.disk) old.parts.name → is_admitted (folded run.log) item ≡ true → ItemFits item
@@ -207,12 +247,13 @@ module _ (law : HostsArePlain catalog_decision) where
 
       stored_told : (answer : HostAnswer) → host_admission ≡ Admitted → answer ≡ answer_of ((hosted cells_of old.core).last + 1) host_body → StandsAt catalog_decision view cells_of new (run.log ++ Offered one ∷ [])
           → layout_in (view new.disk) new.parts ≡ with_entry old.size (layout_in (view old.disk) old.parts)
+          → new.core.sessions.beside ≡ beside_after ((hosted cells_of old.core).last + 1) host_body old.core.sessions.beside
           → LeavesOnly (view old.disk) (view new.disk) (StandsOrTakes catalog_decision old.parts.name run.log (Offered one) host_admission) → Told (admission run one) (printed_of answer)
-      stored_told answer here is stands layout moments =
+      stored_told answer here is stands layout beside moments =
           let text : printed_of answer ≡ stored_as (length run.log + 1) (entry_of (folded run.log) (Offered one)).body = ap printed_of is ∙ printed_as _ host_body ∙ (λ i. stored_as (at.last_is i + 1) (body_is i)) in
           let gained = subst (λ (a : Admission). LeavesOnly (view old.disk) (view new.disk) (StandsOrTakes catalog_decision old.parts.name run.log (Offered one) a)) here moments in
           subst (λ (a : Admission). Told a (printed_of answer)) (sym here ∙ admission_is)
-          (record { line_is = ap (λ (p : Printed). printed_text p ∷ []) (sym text); made = made_stored (Offered one) (answer_by Admitted run one) refl stands layout gained })
+          (record { line_is = ap (λ (p : Printed). printed_text p ∷ []) (sym text); made = made_stored (Offered one) (answer_by Admitted run one) refl stands layout beside gained })
 
       same_told : (adm : Admission) (printed : Printed) → host_admission ≡ adm → new ≡ old → (answer_by adm run one).lines ≡ printed_text printed ∷ [] → (answer_by adm run one).does ≡ Nothing → Told (admission run one) printed
       same_told adm printed here same line does =
@@ -223,16 +264,17 @@ module _ (law : HostsArePlain catalog_decision) where
           → IfOk result (λ _. OnAnswer result (new ≡ old) (new.stopped ≡ false)) → IfErr result (AfterError cells_of old new)
           → OnAnswer result (StandsAt catalog_decision view cells_of new run.log) (StandsAt catalog_decision view cells_of new (run.log ++ Offered one ∷ []))
           → OnAnswer result (Unit {0}) (layout_in (view new.disk) new.parts ≡ with_entry old.size (layout_in (view old.disk) old.parts))
+          → OnAnswer result (Unit {0}) (new.core.sessions.beside ≡ beside_after ((hosted cells_of old.core).last + 1) host_body old.core.sessions.beside)
           → LeavesOnly (view old.disk) (view new.disk) (StandsOrTakes catalog_decision old.parts.name run.log (Offered one) host_admission)
           → IfOk (offer_told result) (Told (admission run one))
-      offer_answered (Ok (answers.Session index)) is repeated after stands layout moments = stored_told (answers.Session index) is.1 is.2 stands layout moments
-      offer_answered (Ok (answers.Done index)) is repeated after stands layout moments = stored_told (answers.Done index) is.1 is.2 stands layout moments
-      offer_answered (Ok (answers.Replied index reply)) is repeated after stands layout moments = stored_told (answers.Replied index reply) is.1 is.2 stands layout moments
-      offer_answered (Ok (answers.Repeat reply)) is repeated after stands layout moments = same_told (Repeats reply) (prints.Repeat reply) is.1 repeated refl refl
-      offer_answered (Err errors.Stopped) is repeated after stands layout moments = tt
-      offer_answered (Err (errors.Refused why)) is repeated after stands layout moments = same_told (Refused why) (prints.Refused why) is.1 after refl refl
-      offer_answered (Err errors.NoMemory) is repeated after stands layout moments = tt
-      offer_answered (Err errors.Disk) is repeated after stands layout moments = tt
+      offer_answered (Ok (answers.Session index)) is repeated after stands layout beside moments = stored_told (answers.Session index) is.1 is.2 stands layout beside moments
+      offer_answered (Ok (answers.Done index)) is repeated after stands layout beside moments = stored_told (answers.Done index) is.1 is.2 stands layout beside moments
+      offer_answered (Ok (answers.Replied index reply)) is repeated after stands layout beside moments = stored_told (answers.Replied index reply) is.1 is.2 stands layout beside moments
+      offer_answered (Ok (answers.Repeat reply)) is repeated after stands layout beside moments = same_told (Repeats reply) (prints.Repeat reply) is.1 repeated refl refl
+      offer_answered (Err errors.Stopped) is repeated after stands layout beside moments = tt
+      offer_answered (Err (errors.Refused why)) is repeated after stands layout beside moments = same_told (Refused why) (prints.Refused why) is.1 after refl refl
+      offer_answered (Err errors.NoMemory) is repeated after stands layout beside moments = tt
+      offer_answered (Err errors.Disk) is repeated after stands layout beside moments = tt
 
       -- what is admitted by the files too is admitted by the state
       admitted_first : (a b : Admission) → first_refusal (a ∷ b ∷ []) ≡ Admitted → is_admission a ≡ true
@@ -297,22 +339,23 @@ module _ (law : HostsArePlain catalog_decision) where
           → IfOk result (λ _. OnExpiry result (new ≡ old) (λ _. new.stopped ≡ false)) → IfErr result (AfterError cells_of old new)
           → OnExpiry result (StandsAt catalog_decision view cells_of new run.log) (λ session. StandsAt catalog_decision view cells_of new (run.log ++ Expired time session ∷ []))
           → OnExpiry result (Unit {0}) (λ _. layout_in (view new.disk) new.parts ≡ with_entry old.size (layout_in (view old.disk) old.parts))
+          → OnExpiry result (Unit {0}) (λ session. new.core.sessions.beside ≡ beside_after ((hosted cells_of old.core).last + 1) (bodies.Close session true) old.core.sessions.beside)
           → LeavesOnly (view old.disk) (view new.disk) (StandsOrExpires catalog_decision old.parts.name run.log time (expiry_stored host_expiry old.parts))
           → IfOk (expiry_told result) Went
-      expiry_answered (Ok None) is same after stands layout moments = (sym expiry_is ∙ of_nobody host_expiry is.1, same)
-      expiry_answered (Ok (Some one)) is same after stands layout moments =
+      expiry_answered (Ok None) is same after stands layout beside moments = (sym expiry_is ∙ of_nobody host_expiry is.1, same)
+      expiry_answered (Ok (Some one)) is same after stands layout beside moments =
           let filed = of_filed host_expiry one.1 is.1 is.2 in
           let gained = subst (λ (e : Expiry). LeavesOnly (view old.disk) (view new.disk) (StandsOrExpires catalog_decision old.parts.name run.log time e)) filed moments in (
             sym expiry_is ∙ filed,
             record {
               line_is = ap (λ (n : ℕ). printed_text (prints.Expired n one.1) ∷ []) (sym (is.3 ∙ ap (λ (n : ℕ). n + 1) at.last_is));
-              made = made_stored (Expired time one.1) (expired_answer run time one.1) refl stands layout gained;
+              made = made_stored (Expired time one.1) (expired_answer run time one.1) refl stands layout beside gained;
             },
           )
-      expiry_answered (Err errors.Stopped) is same after stands layout moments = tt
-      expiry_answered (Err (errors.Refused why)) is same after stands layout moments = (sym expiry_is ∙ of_refused host_expiry why is.1, after)
-      expiry_answered (Err errors.NoMemory) is same after stands layout moments = tt
-      expiry_answered (Err errors.Disk) is same after stands layout moments = tt
+      expiry_answered (Err errors.Stopped) is same after stands layout beside moments = tt
+      expiry_answered (Err (errors.Refused why)) is same after stands layout beside moments = (sym expiry_is ∙ of_refused host_expiry why is.1, after)
+      expiry_answered (Err errors.NoMemory) is same after stands layout beside moments = tt
+      expiry_answered (Err errors.Disk) is same after stands layout beside moments = tt
 
       cut_of : (ending : Ending) → (ending ≡ DiskFault) ⊎ (ending ≡ NoMemory) → IsUnsigned time → LogsAreSound → IsEmptyWhereNone (view new.disk) old.parts.name → (e : Expiry) → expiry run time ≡ e
           → LeavesOnly (view old.disk) (view new.disk) (StandsOrExpires catalog_decision old.parts.name run.log time e) → IsCut files (view old.disk) (view new.disk) run (change_of e time) ending
@@ -347,13 +390,15 @@ module _ (law : HostsArePlain catalog_decision) where
 
     -- ---- the log is opened again
 
-    pub reopened : StandsAt catalog_decision view cells_of new run.log → layout_in (view new.disk) new.parts ≡ alone (layout_in (view old.disk) old.parts)
+    pub reopened : StandsAt catalog_decision view cells_of new run.log → layout_in (view new.disk) new.parts ≡ alone (layout_in (view old.disk) old.parts) → ConfirmsAcked new.core.sessions
         → LeavesOnly (view old.disk) (view new.disk) (λ image. HostStandsFor catalog_decision old.parts.name image run.log) → IsTold view files old new run (reopening run) (prints.Opened (hosted cells_of new.core).last)
-    reopened stands layout moments = record {
+    reopened stands layout confirmed moments = record {
       line_is = ap (λ (n : ℕ). printed_text (prints.Opened n) ∷ []) (sym (keeps.last run.log stands));
       made = record {
-        at = is_at view files new keeps sound (changed files.size run Reopens) (name_is ∙ at.name_is) (size_is ∙ at.size_is) stands logged (layout ∙ ap alone at.layout_is);
+        at = is_at view files new keeps sound (changed files.size run Reopens) (name_is ∙ at.name_is) (size_is ∙ at.size_is) stands logged (layout ∙ ap alone at.layout_is)
+            (confirmed ∙ ap (λ (h : Hosted). acked_positions h.sessions) (stands.state ∙ model.same_fold));
         any_moment = keeps_log old.parts.name files.name run.log (view old.disk) (view new.disk) logged at.name_is moments;
+        offered = offers_nothing files run (reopening run) Reopens (reopened_offered files run) refl;
       };
     }
 

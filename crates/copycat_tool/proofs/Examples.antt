@@ -15,7 +15,7 @@ use Rattle.copycat_tool.specs.Script.{lines, command}
 use Rattle.copycat_tool.specs.Report.{Run, Act, full, report, last_line, status_of, after}
 
 abbrev empty : Run
-empty = record { log = []; layout = no_files }
+empty = record { log = []; layout = no_files; confirmed = []; clients = [] }
 
 abbrev tick_at : ℕ → Item
 tick_at time = Offered (record { time = time; ask = Tick })
@@ -42,7 +42,7 @@ unfolding lines command line_read report
 first_tick = refl
 
 -- then the empty script
-then_none : texts (record { log = tick_at 1 ∷ []; layout = no_files }) [] ≡ (codes "open " ++ decimal 1) ∷ []
+then_none : texts (record { log = tick_at 1 ∷ []; layout = no_files; confirmed = []; clients = [] }) [] ≡ (codes "open " ++ decimal 1) ∷ []
 unfolding lines command line_read report
 then_none = refl
 
@@ -72,7 +72,7 @@ unfolding lines command line_read report
 two_ticks = refl
 
 -- no generation is left for a new file
-no_generation : texts (record { log = []; layout = record { parts = []; greatest = 281474976710655 } }) (codes "tick 1") ≡ (codes "open " ++ decimal 0) ∷ (codes "refused gen end") ∷ []
+no_generation : texts (record { log = []; layout = record { parts = []; greatest = 281474976710655 }; confirmed = []; clients = [] }) (codes "tick 1") ≡ (codes "open " ++ decimal 0) ∷ (codes "refused gen end") ∷ []
 unfolding lines command line_read report
 no_generation = refl
 

@@ -4,7 +4,8 @@ use Rattle.disk_model.specs.Image.{Image}
 use Rattle.disk_model.specs.View.{View, GoesOn, LeavesOnly}
 use Rattle.disk_model.proofs.Moments.{went_on}
 use Rattle.copycat_tool.specs.Report.{Run, Act, after, changed}
-use Rattle.copycat_tool.specs.Runs.{Did, Files, Follows, IsDone, StandsEither}
+use Rattle.copycat_tool.specs.Runs.{Did, Files, Follows, IsDone, StandsEither, WereOffered}
+use Rattle.copycat_tool.proofs.Offering.{offered_more}
 
 module _ (files : Files) where
   -- its moments rise
@@ -34,14 +35,16 @@ module _ (files : Files) where
   follows-append v run (act ∷ a) b since mid until f g = (f.0, f.1, follows-append v (changed files.size run act.does) a b f.0 mid until f.2 g)
 
   -- one act, while a crash leaves the log without what it does or with it
-  pub follows_one : (v w : View) (run : Run) (act : Act) → LeavesOnly v w (StandsEither files.name run.log (changed files.size run act.does).log) → Did files (act ∷ []) run v w
-  follows_one v w run act only = record {
+  pub follows_one : (v w : View) (run : Run) (act : Act) → LeavesOnly v w (StandsEither files.name run.log (changed files.size run act.does).log) → WereOffered files run (act ∷ []) → Did files (act ∷ []) run v w
+  follows_one v w run act only offered = record {
     time = only.time;
     follows = (w.moment, record { later = only.time.later; each = λ image left. inl (only.each image left) }, refl);
+    offered = offered;
   }
 
   pub did_more : (v m w : View) (run : Run) (a b : List Act) → Did files a run v m → Did files b (after files.size run a) m w → Did files (a ++ b) run v w
   did_more v m w run a b first more = record {
     time = went_on v m w first.time more.time;
     follows = follows-append w run a b v.moment m.moment w.moment (still_follows m w more.time run a v.moment m.moment (omega arith) first.follows) more.follows;
+    offered = offered_more files run a b first.offered more.offered;
   }

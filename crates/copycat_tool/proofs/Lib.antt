@@ -1,4 +1,6 @@
+pub mod BeginningLemmas
 pub mod CallLemmas
+pub mod ClientLemmas
 mod Examples
 pub mod ExpiringLemmas
 pub mod Following
@@ -7,11 +9,15 @@ pub mod Keeping
 pub mod LineLemmas
 pub mod LogLemmas
 pub mod LoopLemmas
+pub mod Offering
 pub mod Prefixes
 pub mod ProgramLemmas
 pub mod Progress
+pub mod PuttingLemmas
 pub mod ReadingLemmas
 pub mod ReportLemmas
 pub mod RunLemmas
+pub mod Staying
+pub mod TakingLemmas
 pub mod TurnLemmas
 pub mod Writing

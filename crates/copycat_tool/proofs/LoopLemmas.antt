@@ -15,14 +15,16 @@ use Rattle.copycat_tool.specs.declared.reader.Piece.{Piece}
 use Rattle.copycat_tool.specs.declared.reader.ReadError.{ReadError}
 use Rattle.copycat_tool.specs.Runs.{Files, Ended, IsComplete, Wrote, came, reported}
 use Rattle.copycat_tool.specs.Standing.{IsAt, IsAtRest}
+use Rattle.copycat_tool.specs.Taking.{HasClients}
 use Rattle.copycat_tool.specs.Turning.{HasEndedIn, HasRun, HasTurned}
+use Rattle.copycat_tool.specs.declared.clients.Clients.{Clients}
 use Rattle.copycat_tool.proofs.ReportLemmas.{report_at, report_none, report_long}
 use Rattle.copycat_tool.proofs.Prefixes.{after-append, printed-append}
 use Rattle.copycat_tool.proofs.Progress.{SoFar, at_first, one_more, stays, ends_after}
 use Rattle.copycat_tool.proofs.Writing.{wrote_as, wrote_more, wrote_none}
 
 -- So many lines were answered, and this is held and left of the script.
-pub record Met {D : Type 0} (view : D → View) (files : Files) (old now : Seen D Parts) (first : Run) (number : ℕ) (script held : List ℕ) (taken : ℕ) (left : Option (List ℕ)) (written written' : Option (List ℕ)) : Type 0 where
+pub record Met {D : Type 0} (view : D → View) (files : Files) (old now : Seen D Parts) (first : Run) (number : ℕ) (script held : List ℕ) (taken : ℕ) (left : Option (List ℕ)) (written written' : Option (List ℕ)) (clients : Clients) : Type 0 where
   pub consumed : List ℕ
   pub rest : List ℕ
   pub so_far : SoFar files first number consumed (view old.disk) (view now.disk)
@@ -31,6 +33,7 @@ pub record Met {D : Type 0} (view : D → View) (files : Files) (old now : Seen 
   pub left_is : left ≡ Some rest
   pub taken_is : taken ≡ length consumed + length held
   pub wrote : Wrote written written' (printed so_far.done)
+  pub clients_are : HasClients (after files.size first so_far.done) clients
 
 -- more is held
 pub parts_more : (script consumed held held' left rest : List ℕ) (taken taken' : ℕ) → script ≡ consumed ++ (held ++ left) → TakesMore left held held' taken taken' rest → script ≡ consumed ++ (held' ++ rest)
@@ -149,9 +152,9 @@ other size (Damaged base generation at) first script left isnt = refl
 
 module _ {D : Type 0} (view : D → View) (files : Files) where
   -- before the first piece
-  pub met_first : (h : Seen D Parts) (first : Run) → IsAt view files h first → (script held : List ℕ) (taken : ℕ) (left : Option (List ℕ)) (written : Option (List ℕ))
-      → held ≡ [] → taken ≡ 0 → left ≡ Some script → Met view files h h first 1 script held taken left written written
-  met_first h first at script held taken left written none zero left_is = record {
+  pub met_first : (h : Seen D Parts) (first : Run) → IsAt view files h first → (script held : List ℕ) (taken : ℕ) (left : Option (List ℕ)) (written : Option (List ℕ)) (clients : Clients)
+      → held ≡ [] → taken ≡ 0 → left ≡ Some script → HasClients first clients → Met view files h h first 1 script held taken left written written clients
+  met_first h first at script held taken left written clients none zero left_is are = record {
     consumed = [];
     rest = script;
     so_far = at_first files first (view h.disk) at.rest;
@@ -160,10 +163,11 @@ module _ {D : Type 0} (view : D → View) (files : Files) where
     left_is = left_is;
     taken_is = omega (arith, zero, ap length none);
     wrote = wrote_none written;
+    clients_are = are;
   }
 
-  module _ (old now : Seen D Parts) (first : Run) (number : ℕ) (script held : List ℕ) (taken : ℕ) (left : Option (List ℕ)) (written written' : Option (List ℕ))
-      (m : Met view files old now first number script held taken left written written') where
+  module _ (old now : Seen D Parts) (first : Run) (number : ℕ) (script held : List ℕ) (taken : ℕ) (left : Option (List ℕ)) (written written' : Option (List ℕ)) (clients : Clients)
+      (m : Met view files old now first number script held taken left written written' clients) where
     abbrev v : View
     v = view old.disk
 
@@ -237,9 +241,9 @@ module _ {D : Type 0} (view : D → View) (files : Files) where
             (other files.size ending first script left' isnt ∙ at_line files first number v w m.consumed m.so_far script held' f.rest parts' limit' n at)
 
         -- a line was answered
-        pub after_turn : (n : ℕ) → EndsAt held' n → left' ≡ Some f.rest → (line : List ℕ) → line ≡ take n held' → (new : Seen D Parts) (written'' : Option (List ℕ)) → HasTurned view files line now new here written' written''
-            → (skipped : List ℕ) → skipped ≡ drop (n + 1) held' → (taken'' : ℕ) → taken'' ≡ taken' → Met view files old new first (number + 1) script skipped taken'' left' written written''
-        after_turn n at left_is line is new written'' turned skipped skipped_is taken'' taken_same = record {
+        pub after_turn : (n : ℕ) → EndsAt held' n → left' ≡ Some f.rest → (line : List ℕ) → line ≡ take n held' → (new : Seen D Parts) (written'' : Option (List ℕ)) (clients' : Clients) → HasTurned view files line now new here written' written'' clients'
+            → (skipped : List ℕ) → skipped ≡ drop (n + 1) held' → (taken'' : ℕ) → taken'' ≡ taken' → Met view files old new first (number + 1) script skipped taken'' left' written written'' clients'
+        after_turn n at left_is line is new written'' clients' turned skipped skipped_is taken'' taken_same = record {
           consumed = m.consumed ++ (take n held' ++ 10 ∷ []);
           rest = f.rest;
           so_far = one_more files first number m.consumed v w m.so_far (take n held') turned.acts (view new.disk) at.none_before
@@ -253,4 +257,5 @@ module _ {D : Type 0} (view : D → View) (files : Files) where
           left_is = left_is;
           taken_is = omega (arith, taken_same, ap length skipped_is, taken_is', ap length at.feed, length-append (take n held') (10 ∷ drop (n + 1) held'), length-append m.consumed (take n held' ++ 10 ∷ []), length-append (take n held') (10 ∷ []));
           wrote = wrote_as written written'' _ _ (sym (printed-append m.so_far.done turned.acts)) (wrote_more written written' written'' (printed m.so_far.done) (printed turned.acts) m.wrote turned.answered.wrote);
+          clients_are = subst (λ (r : Run). HasClients r clients') (after-append files.size first m.so_far.done turned.acts) turned.clients_are;
         }

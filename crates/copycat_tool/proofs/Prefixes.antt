@@ -4,7 +4,7 @@ use Rattle.std.proofs.lemmas.List.{append-nil, take-append-le, take_all}
 use Rattle.disk_model.specs.Image.{Image}
 use Rattle.log_model.specs.plain.Admission.{Item}
 use Rattle.copycat_tool.specs.Logs.{StandsFor}
-use Rattle.copycat_tool.specs.Report.{Run, Act, Change, Nothing, Stores, Reopens, changed, printed, printed_lines, after}
+use Rattle.copycat_tool.specs.Report.{Run, Act, Change, Nothing, Stores, Reopens, Confirms, changed, printed, printed_lines, after}
 use Rattle.copycat_tool.specs.Runs.{HasPrefix, StandsEither}
 
 pub printed-append : (a b : List Act) → printed (a ++ b) ≡ printed a ++ printed b
@@ -25,6 +25,7 @@ pub log_changed : (size : ℕ) (run : Run) (change : Change) → (changed size r
 log_changed size run Nothing = sym (append-nil run.log)
 log_changed size run (Stores items) = refl
 log_changed size run Reopens = sym (append-nil run.log)
+log_changed size run (Confirms session events batch) = sym (append-nil run.log)
 
 -- the whole of it
 pub all_of : (name : List ℕ) (log : List Item) (least : ℕ) (image : Image) → least ≤ length log → StandsFor name image log → HasPrefix name log least image

@@ -16,6 +16,8 @@ use Rattle.segment_set.proofs.Images.{nothing, only_one}
 use Rattle.segment_set.proofs.Faultless.{no_fault}
 use Rattle.log_model.specs.plain.Admission.{Item}
 use Rattle.log_model.specs.hosted.PlainMachine.{HostsArePlain}
+use Rattle.log_model.specs.plain.Step.{folded}
+use Rattle.log_model.specs.serving.Positions.{acked_positions}
 use Rattle.host_recovery.specs.Opening.{HasPrefix as HostHasPrefix, IsInOrder as HostIsInOrder}
 use Rattle.resource_catalog.specs.Catalog.{catalog_decision}
 use Rattle.copycat_tool.specs.Report.{Run}
@@ -25,7 +27,7 @@ use Rattle.copycat_tool.specs.declared.ending.Ending.{Ending}
 use Rattle.copycat_tool.specs.declared.ending.Ending.TheVariants.{Damaged, DiskFault, NoMemory, ReadFault, WriteFault}
 use Rattle.copycat_tool.specs.Closing.{EndsRun}
 use Rattle.copycat_tool.specs.Endings.{ending_of}
-use Rattle.copycat_tool.specs.Runs.{Files, HasPrefix, IsInOrder, RanSo}
+use Rattle.copycat_tool.specs.Runs.{BeginsAcked, BeginsAtPoints, Files, HasPrefix, IsInOrder, RanSo}
 use Rattle.copycat_tool.specs.Programs.{IsUnopened, OpensAndRuns, StaysUnopened}
 use Rattle.copycat_tool.proofs.CallLemmas.{as_hosted, hosted_files, plain_files}
 use Rattle.copycat_tool.proofs.LogLemmas.{logged_front}
@@ -117,9 +119,9 @@ of_calls errors.NoMemory (inr is) = cc is
 
 -- up to the moment when it was open a crash leaves what the log was in order for
 pub opens_and_runs : (files : Files) (log : List Item) (least : ℕ) (script : List ℕ) (left : Option (List ℕ)) (v m w : View) (text : List ℕ) (status : ℕ) (read_failed failed failed' : Type 0) (run : Run) (count : ℕ) → least ≤ count → count ≤ length log
-    → run.log ≡ take count log → StandsFor files.name v.reading run.log → Lies files.name v.reading run.layout → LeavesOnly v m (HasPrefix files.name log least) → GoesOn m w → (failed → failed')
+    → run.log ≡ take count log → StandsFor files.name v.reading run.log → Lies files.name v.reading run.layout → run.confirmed ≡ acked_positions (folded run.log).sessions → BeginsAcked run → BeginsAtPoints run → LeavesOnly v m (HasPrefix files.name log least) → GoesOn m w → (failed → failed')
     → RanSo files run script left m.moment w text status read_failed failed → OpensAndRuns files log least script left v w text status read_failed failed'
-opens_and_runs files log least script left v m w text status read_failed failed failed' run count enough within log_is read lies opening time fails ran = record {
+opens_and_runs files log least script left v m w text status read_failed failed failed' run count enough within log_is read lies confirmed clients points opening time fails ran = record {
   run = run;
   count = count;
   enough = enough;
@@ -127,6 +129,9 @@ opens_and_runs files log least script left v m w text status read_failed failed 
   log_is = log_is;
   read = read;
   lies = lies;
+  confirmed = confirmed;
+  clients = clients;
+  points = points;
   opened = m.moment;
   later = opening.time.later;
   before = λ image left. ⊎_elim (λ was. inl (opening.each image was)) (λ since. inr since) (time.nothing_else v.moment image opening.time.later left);
@@ -136,6 +141,7 @@ opens_and_runs files log least script left v m w text status read_failed failed 
     last = ran.last;
     text_is = ran.text_is;
     ended = ran.ended;
+    clients = ran.clients;
     read_fault = ran.read_fault;
     disk_fault = λ is. fails (ran.disk_fault is);
     closes = ran.closes;

@@ -11,15 +11,16 @@ use Rattle.copycat_tool.specs.Script.{has_feed}
 use Rattle.copycat_tool.specs.Report.{Run, Act, Report, Cut, report, in_front, after, printed}
 use Rattle.copycat_tool.specs.declared.ending.Ending.{Ending}
 use Rattle.copycat_tool.specs.declared.ending.Ending.TheVariants.{Done, Fault, TooLong, ReadFault, WriteFault, DiskFault, NoMemory, Damaged}
-use Rattle.copycat_tool.specs.Runs.{Did, Files, Ended, EndedSo, EndsAs, Follows, HasPrefix, IsAnswered, IsComplete, IsInOrder, IsPartOfNext, IsSomeLines, StandsEither, is_by_call, log_at}
+use Rattle.copycat_tool.specs.Runs.{Did, Files, Ended, EndedSo, EndsAs, Follows, HasPrefix, IsAnswered, IsComplete, IsInOrder, IsPartOfNext, IsSomeLines, StandsEither, WereOffered, is_by_call, log_at}
 use Rattle.copycat_tool.specs.Standing.{IsAtRest}
+use Rattle.copycat_tool.proofs.Offering.{none_offered, offered_more}
 use Rattle.copycat_tool.proofs.Following.{did_more, follows-append, still_follows}
 use Rattle.copycat_tool.proofs.ReportLemmas.{report_at}
 use Rattle.copycat_tool.proofs.Prefixes.{printed-append, after-append, all_of}
 
 -- nothing was done
 pub did_nothing : (files : Files) (run : Run) (v : View) → IsAtRest files v run → Did files [] run v v
-did_nothing files run v rest = record { time = stood v rest.sound; follows = refl }
+did_nothing files run v rest = record { time = stood v rest.sound; follows = refl; offered = none_offered files run }
 
 -- a folder at rest is in order for all of its log
 pub at_rest_in_order : (files : Files) (run : Run) (v : View) → IsAtRest files v run → IsInOrder files.name v run.log (length run.log)
@@ -57,6 +58,7 @@ module _ (files : Files) where
       at_exit = at_rest_in_order files run v rest;
       layout = layout;
     };
+    offered = none_offered files run;
   }
 
   module _ (first : Run) (number : ℕ) (consumed : List ℕ) (old now : View) (so_far : SoFar files first number consumed old now) where
@@ -164,4 +166,5 @@ module _ (files : Files) where
               (subst (λ (l : List Item). IsInOrder files.name new (log_at files run rest e.stored) (length l)) (log_so e.sure) e.at_exit);
           layout = λ is. subst (λ (r : Run). LiesAlone files.name new.reading (alone r.layout)) (after-append files.size first done rest.acts) (e.layout is);
         };
+        offered = subst (WereOffered files first) (sym (front e.sure)) (offered_more files first done (take e.sure rest.acts) did.offered ended.offered);
       }

@@ -9,6 +9,7 @@ use Rattle.copycat_tool.specs.Runs.{Files, EndedSo, EndsAs, Ended, Closes, Close
 use Rattle.copycat_tool.specs.Programs.{IsStatus}
 use Rattle.copycat_tool.specs.Closing.{EndsRun, HasCauses, HasClosed, is_numbered}
 use Rattle.copycat_tool.specs.Turning.{HasRun}
+use Rattle.copycat_tool.proofs.Offering.{took_runs}
 use Rattle.copycat_tool.proofs.Writing.{wrote_as, wrote_more, wrote_none}
 
 -- ---- no memory for a last line with a number in it
@@ -33,6 +34,7 @@ instead files run told old new text ending numbered e = record {
     at_exit = e.so.at_exit;
     layout = λ is. absurd (cc is);
   };
+  offered = e.offered;
 }
   where
     no_part : (x : Ending) → is_numbered x ≡ true → EndsAs x told e.so.whole e.so.sure e.so.part → e.so.part ≡ []
@@ -55,7 +57,7 @@ module _ (files : Files) (run : Run) (script : List ℕ) (left : Option (List �
     time = e.time;
     text = body ++ last;
     wrote = wrote_more written written' written'' body last first more;
-    ran = record { ending = ending; body = body; last = last; text_is = refl; ended = e.so; read_fault = read_fault; disk_fault = disk_fault; closes = closes };
+    ran = record { ending = ending; body = body; last = last; text_is = refl; ended = e.so; clients = took_runs files run (take e.so.sure (all_reported files.size ending run script left).acts) e.offered; read_fault = read_fault; disk_fault = disk_fault; closes = closes };
   }
 
   reported_same : (ending : Ending) → is_numbered ending ≡ true → all_reported files.size ending run script left ≡ all_reported files.size NoMemory run script left

@@ -1,6 +1,7 @@
 -- How acts follow one another, and how a run ends within one.
 use Rattle.std.proofs.Common.{◌≡◌, ◌⊎◌, inl, inr, ⊎_elim, ℕ, ◌≤◌, ◌<◌, Bool, true, false, List, [], ◌∷◌, ◌++◌, length, take, Option, Some, None, Result, Ok, Err, refl, ap, sym, ◌∙◌, subst, arith, append_assoc, length-append}
 use Rattle.std.proofs.lemmas.List.{append-nil, take_all}
+use Rattle.std.specs.Prelude.{OnOk}
 use Rattle.disk_model.specs.Image.{Image}
 use Rattle.disk_model.specs.View.{View, LeavesOnly}
 use Rattle.disk_model.proofs.Moments.{started, has_now}
@@ -20,6 +21,9 @@ use Rattle.copycat_tool.specs.Runs.{Did, Files, HasPrefix, Ended, EndedSo, EndsA
 use Rattle.copycat_tool.specs.Standing.{IsAt, IsAtRest, IsCut, IsMade}
 use Rattle.copycat_tool.specs.Turning.{Answers, HasAnswered, HasEnded, HasEndedIn, HasRun, HasTurned, IsPut, Turns}
 use Rattle.copycat_tool.specs.Calls.{IsTold}
+use Rattle.copycat_tool.specs.Taking.{HasClients}
+use Rattle.copycat_tool.specs.declared.clients.Clients.{Clients}
+use Rattle.copycat_tool.proofs.Offering.{none_offered, nothing_offered, offers_nothing}
 use Rattle.copycat_tool.proofs.Following.{did_more, follows_one}
 use Rattle.copycat_tool.proofs.Prefixes.{after-append, either_way, printed-append}
 use Rattle.copycat_tool.proofs.Progress.{at_rest_in_order, did_nothing, stays, ends_after}
@@ -63,6 +67,7 @@ module _ (files : Files) (run : Run) where
           };
           layout = λ is. absurd (cc (is, by_call));
         };
+        offered = none_offered files run;
       }
 
   module _ (this : Act) (v w : View) where
@@ -100,6 +105,7 @@ module _ (files : Files) (run : Run) where
             };
             layout = λ is. absurd (cc (is, by_call));
           };
+          offered = none_offered files run;
         }
 
     -- it was done, and not all of its lines were written
@@ -124,6 +130,7 @@ module _ (files : Files) (run : Run) where
         at_exit = at_rest_in_order files next w at_rest;
         layout = λ is. absurd (cc (is, by_call));
       };
+      offered = did.offered;
     }
 
 -- ---- a call on the host, and its line
@@ -135,7 +142,7 @@ module _ {D : Type 0} (view : D → View) (files : Files) (old new : Seen D Part
       let P : Change → Type 0 = λ c. IsAt view files old (changed files.size run c) × LeavesOnly (view old.disk) (view old.disk) (StandsEither files.name run.log (changed files.size run c).log) in
       let still : P Nothing = (at, started (view old.disk) (StandsEither files.name run.log run.log) at.rest.sound (λ image may. inl (at.rest.kept image may))) in
       let both : P this.does = subst P (sym is) still in
-      record { at = both.0; any_moment = both.1 }
+      record { at = both.0; any_moment = both.1; offered = offers_nothing files run this Nothing (nothing_offered files run) is }
 
   module _ (written written' : Option (List ℕ)) (sink sink' : ℕ) where
     -- it was done, and its line was printed or not
@@ -143,11 +150,11 @@ module _ {D : Type 0} (view : D → View) (files : Files) (old new : Seen D Part
         → Answers view files (this ∷ []) old new run written written' r
     put_told printed told (Ok x) wrote = record {
       at = told.made.at;
-      did = follows_one files (view old.disk) (view new.disk) run this told.made.any_moment;
+      did = follows_one files (view old.disk) (view new.disk) run this told.made.any_moment told.made.offered;
       wrote = wrote_as written written' _ _ (ap (λ (l : List (List ℕ)). printed_lines l) (sym told.line_is) ∙ sym (append-nil (printed_lines this.lines))) (wrote_as written written' _ _ (sym (append-nil (printed_line printed))) wrote);
     }
     put_told printed told (Err WriteFault) put =
-        let did = follows_one files (view old.disk) (view new.disk) run this told.made.any_moment in
+        let did = follows_one files (view old.disk) (view new.disk) run this told.made.any_moment told.made.offered in
         let line : printed_line printed ≡ printed_lines this.lines = sym (append-nil (printed_line printed)) ∙ ap (λ (l : List (List ℕ)). printed_lines l) (sym told.line_is) in
         λ rest. record {
           text = take put.0.0 (printed_lines this.lines);
@@ -156,7 +163,7 @@ module _ {D : Type 0} (view : D → View) (files : Files) (old new : Seen D Part
               (record { next = this; behind = rest.acts; is_next = refl; count = put.0.0; not_all = subst (λ (l : List ℕ). put.0.0 < length l) line put.0.1; part_is = refl }, refl);
         }
     put_told printed told (Err NoMemory) wrote =
-        let did = follows_one files (view old.disk) (view new.disk) run this told.made.any_moment in
+        let did = follows_one files (view old.disk) (view new.disk) run this told.made.any_moment told.made.offered in
         λ rest. record {
           text = [];
           wrote = wrote;
@@ -233,20 +240,22 @@ module _ (files : Files) (line : List ℕ) (run : Run) (number : ℕ) (v : View)
   }
 
 -- it is a command, which was answered, or within which the run ended
-pub line_turned : {D : Type 0} (view : D → View) (files : Files) (line : List ℕ) (number : ℕ) (asked : Command) (old new : Seen D Parts) (run : Run) (written written' : Option (List ℕ)) → Some asked ≡ command line
-    → {T : Type 0} (r : Result T Ending) → Answers view files (answers_to files.size run asked) old new run written written' r → Turns view files line number old new run written written' r
-line_turned view files line number asked old new run written written' is (Ok x) a = record {
+pub line_turned : {D : Type 0} (view : D → View) (files : Files) (line : List ℕ) (number : ℕ) (asked : Command) (old new : Seen D Parts) (run : Run) (written written' : Option (List ℕ)) (clients : Clients) → Some asked ≡ command line
+    → {T : Type 0} (r : Result T Ending) → Answers view files (answers_to files.size run asked) old new run written written' r → OnOk r (HasClients (after files.size run (answers_to files.size run asked)) clients)
+    → Turns view files line number old new run written written' clients r
+line_turned view files line number asked old new run written written' clients is (Ok x) a are = record {
   acts = answers_to files.size run asked;
   is = λ number rest. ap (λ (t : Option Command). one files.size t run number rest) (sym is);
   answered = a;
+  clients_are = are;
 }
-line_turned view files line number asked old new run written written' is (Err ending) e = λ rest.
+line_turned view files line number asked old new run written written' clients is (Err ending) e are = λ rest.
     subst (λ (t : Option Command). HasRun files (one files.size t run number rest) (view old.disk) (view new.disk) run written written' ending) is (e (rest (after files.size run (answers_to files.size run asked))))
 
 -- the last line was answered
-pub answered_all : {D : Type 0} (view : D → View) (files : Files) (line : List ℕ) (number : ℕ) (old new : Seen D Parts) (run : Run) (written written' : Option (List ℕ)) → HasTurned view files line old new run written written'
+pub answered_all : {D : Type 0} (view : D → View) (files : Files) (line : List ℕ) (number : ℕ) (old new : Seen D Parts) (run : Run) (written written' : Option (List ℕ)) (clients : Clients) → HasTurned view files line old new run written written' clients
     → HasRun files (one files.size (command line) run number (λ _. ends Done)) (view old.disk) (view new.disk) run written written' Done
-answered_all view files line number old new run written written' t =
+answered_all view files line number old new run written written' clients t =
     let w = view new.disk in
     let there = after files.size run t.acts in
     let at_end : HasRun files (ends Done) w w there written' written' Done = record {

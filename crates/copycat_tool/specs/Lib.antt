@@ -9,5 +9,6 @@ pub mod Report
 pub mod Runs
 pub mod Script
 pub mod Standing
+pub mod Taking
 pub mod Turning
 pub mod Words

@@ -5,13 +5,15 @@ use Rattle.disk_model.specs.Image.{Image}
 use Rattle.disk_model.specs.View.{View, LeavesAt, LeavesOnly, MayHold}
 use Rattle.segment_files.specs.Folder.{folder, IsFault}
 use Rattle.log_model.specs.plain.Admission.{Item}
+use Rattle.log_model.specs.plain.Step.{folded}
+use Rattle.log_model.specs.serving.Positions.{acked_positions}
 use Rattle.host_recovery.specs.Lying.{Lies}
 use Rattle.segment_set.specs.Opening.{id_from}
 use Rattle.copycat_tool.specs.declared.ending.Ending.{Ending}
 use Rattle.copycat_tool.specs.declared.ending.Ending.TheVariants.{DiskFault, Damaged, NoMemory}
 use Rattle.copycat_tool.specs.Logs.{StandsFor}
 use Rattle.copycat_tool.specs.Report.{Run}
-use Rattle.copycat_tool.specs.Runs.{ClosesAs, Files, HasPrefix, IsInOrder, RanSo, Wrote}
+use Rattle.copycat_tool.specs.Runs.{BeginsAcked, BeginsAtPoints, ClosesAs, Files, HasPrefix, IsInOrder, RanSo, Wrote}
 
 abbrev pub usage_line : List ℕ
 usage_line = codes "usage: copycat run NAME [--segment N], census NAME, follow LEADER NAME, make NAME SEED COUNT" ++ 10 ∷ []
@@ -28,6 +30,10 @@ pub record OpensAndRuns (files : Files) (log : List Item) (least : ℕ) (script 
   pub log_is : run.log ≡ take count log
   pub read : StandsFor files.name old.reading run.log
   pub lies : Lies files.name old.reading run.layout
+  -- each session has confirmed, and each client has, what the session acknowledged
+  pub confirmed : run.confirmed ≡ acked_positions (folded run.log).sessions
+  pub clients : BeginsAcked run
+  pub points : BeginsAtPoints run
   pub opened : ℕ
   pub later : old.moment ≤ opened
   pub before : (image : Image) → new.left_since old.moment image → HasPrefix files.name log least image ⊎ new.left_since opened image

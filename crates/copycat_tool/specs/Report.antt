@@ -1,5 +1,5 @@
 -- What a run over a script prints and stores, as a function of the log, of how it lies in files, and of the script.
-use Rattle.std.specs.Prelude.{ℕ, zero, suc, ◌+◌, ◌&&◌, nat_lt, nat_le, if◌then◌else◌, List, [], ◌∷◌, ◌++◌, length, take, Option, Some, None, Result, Ok, Err, codes}
+use Rattle.std.specs.Prelude.{ℕ, zero, suc, ◌+◌, ◌&&◌, nat_lt, nat_le, if◌then◌else◌, List, [], ◌∷◌, ◌++◌, length, map, take, Option, Some, None, Result, Ok, Err, codes}
 use Rattle.std.specs.Fmt.{decimal}
 use Rattle.host_types.specs.Limits.{index_limit}
 use Rattle.host_types.specs.declared.entry.Body.{Body}
@@ -7,7 +7,7 @@ use Rattle.host_types.specs.declared.entry.Body.TheVariants as bodies
 use Rattle.host_types.specs.declared.entry.Offer.{Offer}
 use Rattle.host_types.specs.declared.entry.Op.{Op}
 use Rattle.host_types.specs.declared.entry.Refusal.{Refusal}
-use Rattle.host_types.specs.declared.entry.Refusal.TheVariants.{GenEnd}
+use Rattle.host_types.specs.declared.entry.Refusal.TheVariants.{GenEnd, NoSession}
 use Rattle.host_types.specs.declared.entry.Reply.{Reply}
 use Rattle.script_text.specs.declared.printed.Printed.{Printed}
 use Rattle.script_text.specs.declared.printed.Printed.TheVariants as prints
@@ -16,27 +16,36 @@ use Rattle.log_model.specs.plain.Admission.{Item, Offered, Expired, Admission, A
 use Rattle.host_recovery.specs.Answers.{filed, finds_file}
 use Rattle.log_model.specs.plain.Commands.{plain_look}
 use Rattle.log_model.specs.cleaning.Layout.{Layout, alone, needs_file, with_entry}
+use Rattle.log_model.specs.plain.Plain.{Session, session_of}
 use Rattle.log_model.specs.plain.Quiet.{quiet}
 use Rattle.log_model.specs.plain.Step.{folded}
 use Rattle.log_model.specs.plain.Stored.{entry_of}
+use Rattle.log_model.specs.serving.Batches.{Batch, Served, Turn, Nothing_new, Takes, Misses, serve}
+use Rattle.log_model.specs.serving.Positions.{Position, acked_positions, confirmed_after, event_at, with_confirmed}
+use Rattle.log_model.specs.serving.Serving.{after_event, chained}
 use Rattle.copycat_tool.specs.declared.ending.Ending.{Ending}
 use Rattle.copycat_tool.specs.declared.ending.Ending.TheVariants.{Done, Fault, TooLong, ReadFault, WriteFault, DiskFault, NoMemory, Damaged}
 use Rattle.copycat_tool.specs.declared.lines.Command.{Command}
 use Rattle.copycat_tool.specs.declared.lines.Command.TheVariants as commands
 use Rattle.copycat_tool.specs.Script.{lines, line_limit, script_limit, command}
 
--- what a run stands at: the log, and how it lies in files
+-- What a run stands at: the log, how it lies in files, up to which event each open session has confirmed its events, and up to which
+-- each client has them. A client that isn't named has none: it stands at its session's id.
 pub record Run : Type 0 where
   pub log : List Item
   pub layout : Layout
+  pub confirmed : List Position
+  pub clients : List Position
 
--- what one call on the host changes of it: it stores items, all of them or none, or opens the log again
+-- what is changed of it: items are stored, all of them or none; the log is opened again; or the client of a session confirms these
+-- events, one after the other, and takes a batch
 pub data Change : Type 0 where
   Nothing : Change
   Stores : List Item → Change
   Reopens : Change
+  Confirms : ℕ → List ℕ → Option Batch → Change
 
--- One call on the host: what it does, and the lines that tell of it, which are printed behind it.
+-- What is done, and the lines that tell of it, which are printed behind it.
 pub record Act : Type 0 where
   pub does : Change
   pub lines : List (List ℕ)
@@ -46,11 +55,23 @@ abbrev pub with_items : ℕ → Layout → List Item → Layout
 with_items size layout [] = layout
 with_items size layout (item ∷ items) = with_items size (with_entry size layout) items
 
--- the run after a change, where a new file has this size; only files that are listed count once the log is opened again
+-- what the sessions have confirmed after some items more
+abbrev pub confirmed_with : ℕ → List Position → List Item → List Position
+confirmed_with last confirmed [] = confirmed
+confirmed_with last confirmed (item ∷ items) = confirmed_with (last + 1) (confirmed_after (last + 1) item confirmed) items
+
+-- the clients, where that of a session took a batch
+abbrev pub with_taken : ℕ → Option Batch → List Position → List Position
+with_taken session None clients = clients
+with_taken session (Some b) clients = record { session = session; event = b.index } ∷ clients
+
+-- the run after a change, where a new file has this size; once the log is opened again only files that are listed count, and only
+-- keep-alives
 abbrev pub changed : ℕ → Run → Change → Run
 changed size run Nothing = run
-changed size run (Stores items) = record { log = run.log ++ items; layout = with_items size run.layout items }
-changed size run Reopens = record { log = run.log; layout = alone run.layout }
+changed size run (Stores items) = record { log = run.log ++ items; layout = with_items size run.layout items; confirmed = confirmed_with (length run.log) run.confirmed items; clients = run.clients }
+changed size run Reopens = record { log = run.log; layout = alone run.layout; confirmed = acked_positions (folded run.log).sessions; clients = run.clients }
+changed size run (Confirms session events batch) = record { log = run.log; layout = run.layout; confirmed = with_confirmed session events run.confirmed; clients = with_taken session batch run.clients }
 
 -- and after these acts
 abbrev pub after : ℕ → Run → List Act → Run
@@ -143,6 +164,33 @@ look_answer run name op = says (shown_as (plain_look (folded run.log) name op))
 abbrev pub quiet_answer : Run → Act
 quiet_answer run = says (prints.Quiet (quiet run.log))
 
+-- what the client of a session is offered: the batches that are kept above what was confirmed, in order
+abbrev pub offers : Run → ℕ → Session → List Batch
+offers run session x = after_event (event_at 0 session run.confirmed) (chained x.acked_event x.batches)
+
+-- the event that the client of a session took last
+abbrev pub client_at : Run → ℕ → ℕ
+client_at run id = event_at id id run.clients
+
+abbrev pub taken_of : Turn → Option Batch
+taken_of (Takes b) = Some b
+taken_of _ = None
+
+abbrev pub turn_lines : ℕ → ℕ → Turn → List (List ℕ)
+turn_lines session last Nothing_new = printed_text (prints.Nothing session) ∷ []
+turn_lines session last (Takes b) = map (λ event. printed_text (prints.Event session b.index b.previous event)) b.events
+turn_lines session last (Misses b) = printed_text (prints.Missed session last b.previous) ∷ []
+
+abbrev pub turn_answer : Run → ℕ → Served → Act
+turn_answer run session served = record { does = Confirms session served.confirmed (taken_of served.turn); lines = turn_lines session (client_at run session) served.turn }
+
+abbrev pub take_from : Run → ℕ → Option Session → Act
+take_from run session None = says (prints.Refused (NoSession session))
+take_from run session (Some x) = turn_answer run session (serve (client_at run session) (offers run session x))
+
+abbrev pub take_answer : Run → ℕ → Act
+take_answer run session = take_from run session (session_of session (folded run.log))
+
 abbrev pub opening : Run → Act
 opening run = says (prints.Opened (length run.log))
 
@@ -154,6 +202,7 @@ abbrev pub answers_to : ℕ → Run → Command → List Act
 answers_to size run commands.Skip = []
 answers_to size run (commands.Offer o) = offered size run o
 answers_to size run (commands.Ask name op) = look_answer run name op ∷ []
+answers_to size run (commands.Take session) = take_answer run session ∷ []
 answers_to size run commands.Quiet = quiet_answer run ∷ []
 answers_to size run commands.Reopen = reopening run ∷ []
 

@@ -1,16 +1,20 @@
 -- How a run over a script goes and ends: what it wrote, and what the disk may stand for meanwhile and then.
-use Rattle.std.specs.Prelude.{◌≡◌, ◌<◌, ◌≤◌, ◌⊎◌, ℕ, ◌+◌, ◌-◌, Bool, true, false, if◌then◌else◌, List, [], ◌∷◌, ◌++◌, length, take, drop, Option, Some, None}
+use Rattle.std.specs.Prelude.{◌≡◌, ◌<◌, ◌≤◌, ◌⊎◌, ℕ, ◌+◌, ◌-◌, Bool, true, false, cond, ◌==◌, if◌then◌else◌, IsTrue, List, [], ◌∷◌, ◌++◌, length, take, drop, Option, Some, None}
 use Rattle.disk_model.specs.Image.{Image}
 use Rattle.disk_model.specs.View.{View, MayLeave, GoesOn}
 use Rattle.segment_set.specs.Fits.{IsEmptyWhereNone}
 use Rattle.log_model.specs.plain.Admission.{Item}
 use Rattle.log_model.specs.cleaning.Layout.{alone}
+use Rattle.log_model.specs.plain.Step.{folded}
+use Rattle.log_model.specs.serving.Batches.{Batch, batches}
+use Rattle.log_model.specs.serving.Positions.{acked_positions}
+use Rattle.log_model.specs.serving.Serving.{AreOf, after_event, is_point, last_taken, taken}
 use Rattle.host_recovery.specs.Lying.{LiesAlone}
 use Rattle.copycat_tool.specs.declared.ending.Ending.{Ending}
 use Rattle.copycat_tool.specs.declared.ending.Ending.TheVariants.{Done, Fault, TooLong, ReadFault, WriteFault, DiskFault, NoMemory, Damaged}
 use Rattle.copycat_tool.specs.Script.{script_limit, command}
 use Rattle.copycat_tool.specs.Logs.{IsLog, StandsFor}
-use Rattle.copycat_tool.specs.Report.{Run, Act, Cut, one, changed, printed, printed_lines, after, Report, Broken, report, cut_of, in_front, opening, last_line, status_of}
+use Rattle.copycat_tool.specs.Report.{Run, Act, Change, Confirms, Cut, client_at, one, changed, printed, printed_lines, after, Report, Broken, report, cut_of, in_front, opening, last_line, status_of}
 
 -- the name of a log's files, and the size of a new one
 pub record Files : Type 0 where
@@ -108,6 +112,29 @@ is_by_call NoMemory = true
 is_by_call (Damaged base generation at) = true
 is_by_call _ = false
 
+-- WHAT CLIENTS TOOK
+
+abbrev pub taken_by : ℕ → Change → List Batch
+taken_by id (Confirms session events (Some b)) = cond (session == id) (b ∷ []) []
+taken_by id _ = []
+
+-- what the client of a session took in these acts
+abbrev pub taken_in : ℕ → List Act → List Batch
+taken_in id [] = []
+taken_in id (act ∷ acts) = taken_by id act.does ++ taken_in id acts
+
+-- each client begins with what its session acknowledged
+abbrev pub BeginsAcked : Run → Type 0
+BeginsAcked run = run.clients ≡ acked_positions (folded run.log).sessions
+
+-- so it begins at its session's id or at an event of it
+abbrev pub BeginsAtPoints : Run → Type 0
+BeginsAtPoints run = (id : ℕ) → IsTrue (is_point id (batches run.log id) (client_at run id))
+
+-- What each client took in these acts is an unbroken run of all batches of its session, from where it began, each once.
+abbrev pub TookRuns : Files → Run → List Act → Type 0
+TookRuns files run acts = (id : ℕ) → (count : ℕ) × (taken_in id acts ≡ take count (after_event (client_at run id) (batches (after files.size run acts).log id)))
+
 -- HOW A RUN ENDS
 
 -- what the log is after so many of the acts that are reported
@@ -136,15 +163,28 @@ pub record EndedSo (files : Files) (run : Run) (told : Report) (since : ℕ) (ne
   -- where nothing failed the files lie as the report says, with no others beside them
   pub layout : is_by_call ending ≡ false → LiesAlone files.name new.reading (alone (after files.size run told.acts).layout)
 
+-- The client of a session was offered batches of it, and took what it took of them, from one event to another.
+pub record WasOffered (log : List Item) (id start : ℕ) (took : List Batch) (stands : ℕ) : Type 0 where
+  pub batches_offered : List Batch
+  pub are : AreOf batches_offered (batches log id)
+  pub took_is : took ≡ taken start batches_offered
+  pub stands_is : stands ≡ last_taken start batches_offered
+
+-- so was each client in these acts
+abbrev pub WereOffered : Files → Run → List Act → Type 0
+WereOffered files run acts = (id : ℕ) → WasOffered (after files.size run acts).log id (client_at run id) (taken_in id acts) (client_at (after files.size run acts) id)
+
 -- These acts were done, from an old moment to a new one.
 pub record Did (files : Files) (acts : List Act) (run : Run) (old new : View) : Type 0 where
   pub time : GoesOn old new
   pub follows : Follows files new run acts old.moment new.moment
+  pub offered : WereOffered files run acts
 
 -- A run ended so, from an old moment to a new one.
 pub record Ended (files : Files) (run : Run) (told : Report) (old new : View) (text : List ℕ) (ending : Ending) : Type 0 where
   pub time : GoesOn old new
   pub so : EndedSo files run told old.moment new text ending
+  pub offered : WereOffered files run (take so.sure told.acts)
 
 -- a line was answered by these acts, whatever comes behind it
 abbrev pub IsAnswered : Files → List ℕ → Run → List Act → Type 0
@@ -183,6 +223,7 @@ pub record RanSo (files : Files) (run : Run) (script : List ℕ) (left : Option 
   pub last : List ℕ
   pub text_is : text ≡ body ++ last
   pub ended : EndedSo files run (all_reported files.size ending run script left) since new body ending
+  pub clients : BeginsAtPoints run → TookRuns files run (take ended.sure (all_reported files.size ending run script left).acts)
   -- it says so only of a source or a disk that has failed
   pub read_fault : ending ≡ ReadFault → read_failed
   pub disk_fault : ending ≡ DiskFault → disk_failed

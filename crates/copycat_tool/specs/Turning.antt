@@ -13,6 +13,8 @@ use Rattle.copycat_tool.specs.Report.{Run, Act, Report, after, all_expired, expi
 use Rattle.copycat_tool.specs.Script.{command}
 use Rattle.copycat_tool.specs.Runs.{Did, Ended, Files, IsAnswered, Wrote}
 use Rattle.copycat_tool.specs.Standing.{IsAt}
+use Rattle.copycat_tool.specs.Taking.{HasClients}
+use Rattle.copycat_tool.specs.declared.clients.Clients.{Clients}
 
 -- ---- acts
 
@@ -63,19 +65,20 @@ ended_by ending = Err ending
 
 -- ---- a line
 
--- A line was answered, and the host stands at the run behind it.
-pub record HasTurned {D : Type 0} (view : D → View) (files : Files) (line : List ℕ) (old new : Seen D Parts) (run : Run) (written written' : Option (List ℕ)) : Type 0 where
+-- A line was answered, and the host and the clients stand at the run behind it.
+pub record HasTurned {D : Type 0} (view : D → View) (files : Files) (line : List ℕ) (old new : Seen D Parts) (run : Run) (written written' : Option (List ℕ)) (clients : Clients) : Type 0 where
   pub acts : List Act
   pub is : IsAnswered files line run acts
   pub answered : HasAnswered view files acts old new run written written'
+  pub clients_are : HasClients (after files.size run acts) clients
 
 -- The run ended within a line, whatever would come behind it.
 abbrev pub HasEndedIn : Files → List ℕ → ℕ → View → View → Run → Option (List ℕ) → Option (List ℕ) → Ending → Type 0
 HasEndedIn files line number old new run written written' ending = (rest : Run → Report) → HasRun files (one files.size (command line) run number rest) old new run written written' ending
 
-abbrev pub Turns : {D : Type 0} → (D → View) → Files → List ℕ → ℕ → Seen D Parts → Seen D Parts → Run → Option (List ℕ) → Option (List ℕ) → {T : Type 0} → Result T Ending → Type 0
-Turns view files line number old new run written written' (Ok x) = HasTurned view files line old new run written written'
-Turns view files line number old new run written written' (Err ending) = HasEndedIn files line number (view old.disk) (view new.disk) run written written' ending
+abbrev pub Turns : {D : Type 0} → (D → View) → Files → List ℕ → ℕ → Seen D Parts → Seen D Parts → Run → Option (List ℕ) → Option (List ℕ) → Clients → {T : Type 0} → Result T Ending → Type 0
+Turns view files line number old new run written written' clients (Ok x) = HasTurned view files line old new run written written' clients
+Turns view files line number old new run written written' clients (Err ending) = HasEndedIn files line number (view old.disk) (view new.disk) run written written' ending
 
 -- ---- a printed line
 

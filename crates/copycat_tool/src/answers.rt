@@ -3,16 +3,20 @@ ghost use Rattle.std.specs.Prelude.{◌≡◌, ◌≤◌, ℕ, List, Some, Err, 
 ghost use Rattle.script_io.specs.Streams.{Rose};
 ghost use Rattle.copycat_tool.specs.Reading.{IsFrontOf};
 ghost use Rattle.copycat_tool.specs.Report.{Run, Whole, last_piece};
-ghost use Rattle.copycat_tool.specs.Runs.{Files, all_reported, reported};
+ghost use Rattle.copycat_tool.specs.Runs.{BeginsAcked, Files, all_reported, reported};
 ghost use Rattle.copycat_tool.specs.Standing.{IsAt};
+ghost use Rattle.copycat_tool.specs.Taking.{HasClients};
 ghost use Rattle.copycat_tool.specs.Turning.{HasRun, KeepsRun, ended_by};
 
+use crate::clients::Clients;
 use crate::ending::Ending;
 use crate::reader::{LineReader, Piece, ReadError};
-use crate::turns::{put_answer, turn};
+use crate::texts::put_answer;
+use crate::turns::turn;
 use disk_model::Disk;
 use host_recovery::Host;
-use resource_catalog::Catalog;
+use log_model::plain_machines_are_plain;
+use resource_catalog::{Catalog, catalog_is_plain};
 use script_io::{Sink, Source};
 use script_text::Printed;
 use std::alloc::Global;
@@ -23,18 +27,19 @@ fn answer_last<D: Disk, O: Sink>(
     piece: &[u8],
     number: u64,
     host: &mut Host<D, Catalog>,
+    clients: &mut Clients,
     text: &mut Vec<u8>,
     out: &mut O,
 ) -> Ending
     requires runs { host.old.stopped ≡ false }
-    ensures ended { IsTrue D.tells → (files : Files) (run : Run) → IsAt D.view files host.old run
+    ensures ended { IsTrue D.tells → (files : Files) (run : Run) → IsAt D.view files host.old run → HasClients run clients.old
         → HasRun files (last_piece files.size Whole run number piece.now) (D.view host.old.disk) (D.view host.new.disk) run (O.written out.old) (O.written out.new) result }
     ensures keeps { KeepsRun D.tells D.view D.faults host.old host.new (O.faults out.old) (O.faults out.new) ⊥ (ended_by result) }
 {
     if piece.is_empty() {
         return Ending::Done;
     }
-    match turn(alloc, piece, number, host, text, out) {
+    match turn(alloc, piece, number, host, clients, text, out) {
         Ok(()) => Ending::Done,
         Err(ending) => ending,
     }
@@ -45,11 +50,12 @@ fn answer_lines<I: Source, D: Disk, O: Sink>(
     alloc: Global,
     script: &mut I,
     host: &mut Host<D, Catalog>,
+    clients: &mut Clients,
     text: &mut Vec<u8>,
     out: &mut O,
 ) -> Ending
     requires runs { host.old.stopped ≡ false }
-    ensures ended { IsTrue D.tells → (files : Files) (run : Run) → IsAt D.view files host.old run → (bytes : List ℕ) → I.left script.old ≡ Some bytes
+    ensures ended { IsTrue D.tells → (files : Files) (run : Run) → IsAt D.view files host.old run → HasClients run clients.old → (bytes : List ℕ) → I.left script.old ≡ Some bytes
         → HasRun files (reported files.size result run bytes (I.left script.new)) (D.view host.old.disk) (D.view host.new.disk) run (O.written out.old) (O.written out.new) result }
     ensures keeps { KeepsRun D.tells D.view D.faults host.old host.new (O.faults out.old) (O.faults out.new) (Rose (I.faults script.old) (I.faults script.new)) (ended_by result) }
     ensures front { (bytes : List ℕ) → I.left script.old ≡ Some bytes → IsFrontOf bytes (I.left script.new) }
@@ -69,6 +75,7 @@ fn answer_lines<I: Source, D: Disk, O: Sink>(
                     &reader.held.bytes()[..length],
                     number,
                     host,
+                    clients,
                     text,
                     out,
                 ) {
@@ -77,7 +84,15 @@ fn answer_lines<I: Source, D: Disk, O: Sink>(
                 }
                 reader.skip(length + 1);
             }
-            Piece::Last => return answer_last(alloc, reader.held.bytes(), number, host, text, out),
+            Piece::Last => return answer_last(
+                alloc,
+                reader.held.bytes(),
+                number,
+                host,
+                clients,
+                text,
+                out,
+            ),
             Piece::Long => return Ending::Fault { line: number },
             Piece::Above => return Ending::TooLong,
         }
@@ -93,14 +108,20 @@ pub fn answer_script<I: Source, D: Disk, O: Sink>(
     out: &mut O,
 ) -> Ending
     requires runs { host.old.stopped ≡ false }
-    ensures ended { IsTrue D.tells → (files : Files) (run : Run) → IsAt D.view files host.old run → (bytes : List ℕ) → I.left script.old ≡ Some bytes
+    ensures ended { IsTrue D.tells → (files : Files) (run : Run) → IsAt D.view files host.old run → BeginsAcked run → (bytes : List ℕ) → I.left script.old ≡ Some bytes
         → HasRun files (all_reported files.size result run bytes (I.left script.new)) (D.view host.old.disk) (D.view host.new.disk) run (O.written out.old) (O.written out.new) result }
     ensures keeps { KeepsRun D.tells D.view D.faults host.old host.new (O.faults out.old) (O.faults out.new) (Rose (I.faults script.old) (I.faults script.new)) (ended_by result) }
     ensures front { (bytes : List ℕ) → I.left script.old ≡ Some bytes → IsFrontOf bytes (I.left script.new) }
 {
+    catalog_is_plain();
+    plain_machines_are_plain();
+    let mut clients = match Clients::of_opened(alloc, host) {
+        Ok(clients) => clients,
+        Err(_) => return Ending::NoMemory,
+    };
     let mut text = Vec::new(alloc);
     match put_answer(Printed::Opened { last: host.last() }, &mut text, out) {
-        Ok(()) => answer_lines(alloc, script, host, &mut text, out),
+        Ok(()) => answer_lines(alloc, script, host, &mut clients, &mut text, out),
         Err(ending) => ending,
     }
 }

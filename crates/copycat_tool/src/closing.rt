@@ -5,7 +5,7 @@ ghost use Rattle.segment_set.specs.Fits.{KeepsNames};
 ghost use Rattle.copycat_tool.specs.Closing.{EndsRun, HasCauses, HasClosed};
 ghost use Rattle.copycat_tool.specs.Reading.{IsFrontOf};
 ghost use Rattle.copycat_tool.specs.Report.{Run};
-ghost use Rattle.copycat_tool.specs.Runs.{Closes, Files, Wrote};
+ghost use Rattle.copycat_tool.specs.Runs.{BeginsAcked, Closes, Files, Wrote};
 ghost use Rattle.copycat_tool.specs.Standing.{IsAt};
 
 use crate::answers::answer_script;
@@ -72,7 +72,7 @@ pub fn run_script<I: Source, D: Disk, O: Sink>(
 ) -> Status
     requires runs { host.old.stopped ≡ false }
     requires name { host.old.parts.name ≡ name.now }
-    ensures ran { IsTrue D.tells → (files : Files) (run : Run) → IsAt D.view files host.old run → (bytes : List ℕ) → I.left script.old ≡ Some bytes
+    ensures ran { IsTrue D.tells → (files : Files) (run : Run) → IsAt D.view files host.old run → BeginsAcked run → (bytes : List ℕ) → I.left script.old ≡ Some bytes
         → HasClosed files run bytes (I.left script.new) (D.view host.old.disk) (D.view host.new.disk) (O.written out.old) (O.written out.new) result.0
         (Rose (I.faults script.old) (I.faults script.new)) (D.faults host.old.disk < D.faults host.new.disk) }
     ensures causes { HasCauses (Rose (I.faults script.old) (I.faults script.new)) (Rose (O.faults out.old) (O.faults out.new)) (D.faults host.old.disk < D.faults host.new.disk) result.0 }

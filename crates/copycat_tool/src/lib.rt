@@ -3,6 +3,7 @@
 
 mod answers;
 mod calls;
+mod clients;
 mod closing;
 mod ending;
 mod folders;
@@ -11,6 +12,7 @@ mod lines;
 mod opened;
 mod program;
 mod reader;
+mod taking;
 mod texts;
 mod turns;
 mod words;

@@ -4,7 +4,7 @@ ghost use Rattle.copycat_tool.specs.Script.{IsFit, command, command_of, if_line}
 ghost use Rattle.script_text.specs.Lines.{IsAllowed};
 ghost use Rattle.script_text.specs.Reading.{line_read};
 
-use host_types::{Key, NoMemory, Offer, Op};
+use host_types::{Index, Key, NoMemory, Offer, Op};
 use script_text::{Line, LineFault, read_line};
 use std::alloc::Global;
 
@@ -20,6 +20,8 @@ pub enum Command {
     Offer(Offer),
     /// What a looking operation shows of the resource of this name.
     Ask { name: Key, op: Op },
+    /// To hand the next batch to the client of this session.
+    Take { session: Index },
     /// The index up to which nobody waits for a reply or an event.
     Quiet,
     /// To close the log and open it again.
@@ -36,6 +38,7 @@ fn command_of(line: Line) -> Option<Command>
         Line::Skip => Some(Command::Skip),
         Line::Offer(offer) => Some(Command::Offer(offer)),
         Line::Ask { name, op } => Some(Command::Ask { name, op }),
+        Line::Take { session } => Some(Command::Take { session }),
         Line::Quiet => Some(Command::Quiet),
         Line::Reopen => Some(Command::Reopen),
         _ => None,

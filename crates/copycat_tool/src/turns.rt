@@ -1,39 +1,26 @@
 // One line of a script: it is answered, or the run ends there.
 ghost use Rattle.std.specs.Prelude.{◌≡◌, ◌≤◌, ◌∷◌, [], IsTrue, OnOk, false, true};
 ghost use Rattle.host_types.specs.Decision.{is_looking};
-ghost use Rattle.script_text.specs.Printing.{HasRange, printed_line};
 ghost use Rattle.copycat_tool.specs.Script.{IsFit};
-ghost use Rattle.copycat_tool.specs.Report.{Run, admission, answer_by, answers_to, look_answer, offered, reopening};
+ghost use Rattle.copycat_tool.specs.Report.{Run, admission, after, answer_by, answers_to, look_answer, offered, reopening};
 ghost use Rattle.copycat_tool.specs.Runs.{Files};
 ghost use Rattle.copycat_tool.specs.Standing.{IsAt};
-ghost use Rattle.copycat_tool.specs.Turning.{Answers, Expires_all, IsPut, KeepsRun, Turns};
+ghost use Rattle.copycat_tool.specs.Taking.{HasClients};
+ghost use Rattle.copycat_tool.specs.Turning.{Answers, Expires_all, KeepsRun, Turns};
 
 use crate::calls::{Expiring, expire_next, look, make_offer, quiet_of, reopen};
+use crate::clients::Clients;
 use crate::ending::Ending;
 use crate::lines::{Command, read_command};
-use crate::texts::line_of;
+use crate::taking::answer_take;
+use crate::texts::put_answer;
 use disk_model::Disk;
 use host_recovery::Host;
 use host_types::{Key, NoMemory, Offer, Op, Refusal, Time};
 use resource_catalog::Catalog;
-use script_io::{Sink, put_all};
+use script_io::Sink;
 use script_text::Printed;
 use std::alloc::Global;
-
-/// Prints an answer, by way of `text`, which is room for one line that is used again for each.
-pub fn put_answer<O: Sink>(answer: Printed, text: &mut Vec<u8>, out: &mut O) -> Result<(), Ending>
-    requires { HasRange answer }
-    ensures put { IsPut (O.written out.old) (O.written out.new) (O.faults out.old) (O.faults out.new) (printed_line answer) result }
-    ensures later { O.faults out.old ≤ O.faults out.new }
-{
-    let Ok(()) = line_of(answer, text) else {
-        return Err(Ending::NoMemory);
-    };
-    match put_all(out, text) {
-        Ok(()) => Ok(()),
-        Err(_) => Err(Ending::WriteFault),
-    }
-}
 
 /// Whoever is due at this time expires, one after the other, each with a line of its own. Answers why the rest doesn't, if so.
 fn expire_all<D: Disk, O: Sink>(
@@ -151,20 +138,24 @@ fn answer_command<D: Disk, O: Sink>(
     alloc: Global,
     asked: &Command,
     host: &mut Host<D, Catalog>,
+    clients: &mut Clients,
     text: &mut Vec<u8>,
     out: &mut O,
 ) -> Result<(), Ending>
     requires runs { host.old.stopped ≡ false }
     requires fit { IsFit asked.now }
     ensures runs { OnOk result (host.new.stopped ≡ false) }
-    ensures answers { IsTrue D.tells → (files : Files) (run : Run) → IsAt D.view files host.old run
+    ensures answers { IsTrue D.tells → (files : Files) (run : Run) → IsAt D.view files host.old run → HasClients run clients.old
         → Answers D.view files (answers_to files.size run asked.now) host.old host.new run (O.written out.old) (O.written out.new) result }
+    ensures clients { IsTrue D.tells → (files : Files) (run : Run) → IsAt D.view files host.old run → HasClients run clients.old
+        → OnOk result (HasClients (after files.size run (answers_to files.size run asked.now)) clients.new) }
     ensures keeps { KeepsRun D.tells D.view D.faults host.old host.new (O.faults out.old) (O.faults out.new) ⊥ result }
 {
     match asked {
         Command::Skip => Ok(()),
         Command::Offer(one) => answer_line_of_offer(alloc, one, host, text, out),
         Command::Ask { name, op } => answer_look(alloc, name, op, host, text, out),
+        Command::Take { session } => answer_take(*session, host, clients, text, out),
         Command::Quiet => put_answer(quiet_of(host), text, out),
         Command::Reopen => answer_reopen(alloc, host, text, out),
     }
@@ -176,17 +167,18 @@ pub fn turn<D: Disk, O: Sink>(
     line: &[u8],
     number: u64,
     host: &mut Host<D, Catalog>,
+    clients: &mut Clients,
     text: &mut Vec<u8>,
     out: &mut O,
 ) -> Result<(), Ending>
     requires runs { host.old.stopped ≡ false }
     ensures runs { OnOk result (host.new.stopped ≡ false) }
-    ensures turns { IsTrue D.tells → (files : Files) (run : Run) → IsAt D.view files host.old run
-        → Turns D.view files line.now number host.old host.new run (O.written out.old) (O.written out.new) result }
+    ensures turns { IsTrue D.tells → (files : Files) (run : Run) → IsAt D.view files host.old run → HasClients run clients.old
+        → Turns D.view files line.now number host.old host.new run (O.written out.old) (O.written out.new) clients.new result }
     ensures keeps { KeepsRun D.tells D.view D.faults host.old host.new (O.faults out.old) (O.faults out.new) ⊥ result }
 {
     match read_command(alloc, line) {
-        Ok(Some(asked)) => answer_command(alloc, &asked, host, text, out),
+        Ok(Some(asked)) => answer_command(alloc, &asked, host, clients, text, out),
         Ok(None) => Err(Ending::Fault { line: number }),
         Err(NoMemory) => Err(Ending::NoMemory),
     }

@@ -1,3 +1,4 @@
+pub mod Confirming
 pub mod Giving
 pub mod Keeping
 pub mod Meeting

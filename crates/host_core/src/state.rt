@@ -9,7 +9,7 @@ ghost use Rattle.log_model.specs.replay.Replay.{replay_entry};
 ghost use Rattle.log_model.specs.hosted.Sound.{IsSound};
 ghost use Rattle.host_core.specs.Answers.{Decides_as, IsStorable};
 ghost use Rattle.session_table.specs.Asked.{confirms};
-ghost use Rattle.session_table.specs.Table.{IsOpen, IsSame, beside_changed, beside_confirmed, confirmed_of};
+ghost use Rattle.session_table.specs.Table.{ConfirmsAcked, IsOpen, IsSame, beside_changed, beside_confirmed, confirmed_of};
 ghost use Rattle.host_core.specs.Entering.{beside_after};
 ghost use Rattle.host_core.specs.Seen.{IsPrepared, hosted};
 
@@ -67,7 +67,8 @@ impl<M: Machine> Core<M> {
     /// A core of the empty log. The machine has no cell. It takes no memory.
     pub fn new(alloc: Global, machine: M) -> Core<M>
         requires { M.cells machine ≡ [] }
-        ensures { hosted M.cells result ≡ hosted_nothing }
+        ensures state { hosted M.cells result ≡ hosted_nothing }
+        ensures confirmed { ConfirmsAcked result.sessions }
     {
         Core {
             machine,
@@ -233,6 +234,8 @@ impl<M: Machine> Core<M> {
         ensures ok { OnOk result (hosted M.cells self.new ≡ replay_entry (hosted_told M.decides) cut (hosted M.cells self.old) (index, entry)) }
         ensures err { OnErr result (hosted M.cells self.new ≡ hosted M.cells self.old) }
         ensures beside { OnOk result (self.new.sessions.beside ≡ beside_after index entry.body self.old.sessions.beside) }
+        // Of a log that is opened again no event is confirmed that a keep-alive didn't acknowledge.
+        ensures confirmed { OnOk result (ConfirmsAcked self.old.sessions → ConfirmsAcked self.new.sessions) }
         ensures sessions { OnErr result (IsSame self.old.sessions self.new.sessions) }
     {
         let batches = self.make_room(alloc, index, &entry.body, cut)?;
@@ -270,6 +273,7 @@ impl<M: Machine> Core<M> {
     pub fn confirm(&mut self, id: Index, event: Index) -> Result<(), Index>
         requires { IsOpen id self.old.sessions }
         ensures answer { is_ok result ≡ confirms id event self.old.sessions }
+        ensures event { OnOk result (confirmed_of id self.new.sessions ≡ event) }
         ensures err { IfErr result (λ at. at ≡ confirmed_of id self.old.sessions) }
         ensures state { hosted M.cells self.new ≡ hosted M.cells self.old }
         ensures beside { self.new.sessions.beside ≡ cond (is_ok result) (beside_changed id (beside_confirmed event) self.old.sessions.beside) self.old.sessions.beside }

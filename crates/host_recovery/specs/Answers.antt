@@ -64,20 +64,24 @@ OnAnswer (Ok (answers.Repeat reply)) repeated stored = repeated
 OnAnswer (Ok answer) repeated stored = stored
 OnAnswer (Err error) repeated stored = Unit {0}
 
+-- its state is as before, and so are the confirmed events
+abbrev pub KeepsState : {D M : Type 0} → (M → Cells) → Seen D M → Seen D M → Type 0
+KeepsState cells old new = (hosted cells new.core ≡ hosted cells old.core) × (new.core.sessions.beside ≡ old.core.sessions.beside)
+
 -- it is as before, but for room
 pub record IsAsBefore {D M : Type 0} (cells : M → Cells) (old new : Seen D M) : Type 0 where
   pub disk : new.disk ≡ old.disk
   pub parts : new.parts ≡ old.parts
   pub stopped : new.stopped ≡ old.stopped
-  pub state : hosted cells new.core ≡ hosted cells old.core
+  pub state : KeepsState cells old new
 
 -- A refusal changes nothing. Want of memory changes nothing, or a call of the disk had it, which stops the host. A fault of the disk
 -- stops it. Its state is as before in any case.
 abbrev pub AfterError : {D M : Type 0} → (M → Cells) → Seen D M → Seen D M → HostError → Type 0
 AfterError cells old new errors.Stopped = new ≡ old
 AfterError cells old new (errors.Refused why) = new ≡ old
-AfterError cells old new errors.NoMemory = (hosted cells new.core ≡ hosted cells old.core) × ((new.stopped ≡ true) ⊎ IsAsBefore cells old new)
-AfterError cells old new errors.Disk = (hosted cells new.core ≡ hosted cells old.core) × (new.stopped ≡ true)
+AfterError cells old new errors.NoMemory = KeepsState cells old new × ((new.stopped ≡ true) ⊎ IsAsBefore cells old new)
+AfterError cells old new errors.Disk = KeepsState cells old new × (new.stopped ≡ true)
 
 -- a disk fault is told only where the disk has failed since
 pub record HasHostCause {T : Type 0} (before now : ℕ) (result : Result T HostError) : Type 0 where

@@ -2,4 +2,5 @@ pub mod Answers
 pub mod Lying
 pub mod Opening
 pub mod Seen
+pub mod Serving
 pub mod Standing

@@ -7,7 +7,7 @@ use machine::Machine;
 use segment_set::Parts;
 use std::marker::Model;
 
-/// A host over a disk and a machine that tells nobody anything. It is seen as its disk, what it remembers of the log's files, its
+/// A host over a disk and a machine. It is seen as its disk, what it remembers of the log's files, its
 /// core, the size of a new file, and whether it is stopped.
 ///
 /// Its contracts speak of the logs that it stands at (`StandsAt`): the files and each image that a crash may leave hold the log's

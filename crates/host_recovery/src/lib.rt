@@ -4,8 +4,10 @@
 mod answers;
 mod host;
 mod opening;
+mod serving;
 mod storing;
 mod views;
 
 pub use answers::{Answer, AskError, HostError};
 pub use host::Host;
+pub use serving::{AckError, NoSession};

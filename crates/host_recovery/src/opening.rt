@@ -13,6 +13,7 @@ ghost use Rattle.log_model.specs.plain.Admission.{Item};
 ghost use Rattle.log_model.specs.hosted.Hosted.{hosted_nothing, hosted_told};
 ghost use Rattle.log_model.specs.cleaning.Layout.{alone};
 ghost use Rattle.log_model.specs.replay.Replay.{replay_from, replayed};
+ghost use Rattle.session_table.specs.Table.{ConfirmsAcked};
 ghost use Rattle.host_core.specs.Seen.{hosted};
 ghost use Rattle.host_recovery.specs.Standing.{StandsAt, StandsFor, layout_in};
 ghost use Rattle.host_recovery.specs.Lying.{Lies};
@@ -34,7 +35,8 @@ fn replay_all<M: Machine>(
     list: Vec<(Index, Entry)>,
 ) -> Result<(), NoMemory>
     requires numbered { AreNumbered core.old.last list.items }
-    ensures { OnOk result (hosted M.cells core.new ≡ replay_from (hosted_told M.decides) 0 (hosted M.cells core.old) list.items) }
+    ensures state { OnOk result (hosted M.cells core.new ≡ replay_from (hosted_told M.decides) 0 (hosted M.cells core.old) list.items) }
+    ensures confirmed { OnOk result (ConfirmsAcked core.old.sessions → ConfirmsAcked core.new.sessions) }
 {
     for (index, entry) in list {
         core.replay(alloc, index, entry, 0)?;
@@ -50,10 +52,12 @@ fn load<D: Disk, M: Machine>(
     name: &LogName,
 ) -> Result<Parts, OpenError>
     requires fresh { hosted M.cells core.old ≡ hosted_nothing }
+    requires unconfirmed { ConfirmsAcked core.old.sessions }
     ensures name { IfOk result (λ parts. parts.name ≡ name.now) }
     ensures fits { IfOk result (λ parts. IsTrue D.tells → Fits (D.view disk.new) name.now parts.tail parts.greatest) }
     ensures state { IfOk result (λ parts. IsTrue D.tells → hosted M.cells core.new ≡ replayed (hosted_told M.decides) 0 (entries_of (parts_in (D.view disk.new).reading name.now parts.tail))) }
     ensures last { IfOk result (λ parts. core.new.last ≡ last_of parts.tail) }
+    ensures confirmed { OnOk result (ConfirmsAcked core.new.sessions) }
     ensures choice { IfOk result (λ parts. IsTrue D.tells → IsChoice (folder name.now (D.view disk.old).reading) (parts_in (D.view disk.new).reading name.now parts.tail)) }
     ensures held { IfOk result (λ parts. IsTrue D.tells → IsEmptyWhereNone (D.view disk.old) name.now → IsHeld (D.view disk.new) name.now parts.tail) }
     ensures greatest { IfOk result (λ parts. IsTrue D.tells → IsGreatestListed (D.view disk.old) name.now parts.greatest) }
@@ -80,10 +84,10 @@ fn load<D: Disk, M: Machine>(
 
 impl<D: Disk, M: Machine> Host<D, M> {
     /// Opens the log of a name over a machine with no cell, with so many entries before the next file is begun: what is read is what
-    /// every crash leaves from then on. The machine tells nobody anything for now. On an error the disk is given back; where it is
-    /// `Damaged` no file has been removed.
+    /// every crash leaves from then on. On an error the disk is given back; where it is `Damaged` no file has been removed.
     ///
-    /// On a folder that is in order for a log, the host stands at the prefix of the log that was read.
+    /// On a folder that is in order for a log, the host stands at the prefix of the log that was read. No event is confirmed that no
+    /// keep-alive acknowledged.
     pub fn open(
         alloc: Global,
         disk: D,
@@ -98,6 +102,7 @@ impl<D: Disk, M: Machine> Host<D, M> {
         ensures stands { IsTrue D.tells → (items : List Item) (least : ℕ) → IsInOrder M.decides (D.view disk) name.now items least → IfOk result (OpensAt M.decides D.view M.cells (D.view disk) items least) }
         ensures any_moment { IsTrue D.tells → (items : List Item) (least : ℕ) → IsInOrder M.decides (D.view disk) name.now items least
             → LeavesOnly (D.view disk) (D.view (disk_behind result)) (HasPrefix M.decides name.now items least) }
+        ensures confirmed { IfOk result (λ h. ConfirmsAcked h.core.sessions) }
         ensures faultless { OnOk result (IsTrue D.tells → (id : FileId) (at : ℕ) → IsFault (folder name.now (D.view disk).reading) id at → ⊥) }
         ensures lies { IfOk result (λ h. IsTrue D.tells → Lies name.now (D.view disk).reading (layout_in (D.view h.disk) h.parts)) }
 
@@ -141,6 +146,7 @@ impl<D: Disk, M: Machine> Host<D, M> {
         requires { M.cells machine ≡ [] }
         ensures runs { OnOk result (self.new.stopped ≡ false) }
         ensures stops { OnErr result (self.new.stopped ≡ true) }
+        ensures confirmed { OnOk result (ConfirmsAcked self.new.core.sessions) }
 
         // On a folder that is in order.
         ensures opens { IsTrue D.tells → (items : List Item) (least : ℕ) → IsInOrder M.decides (D.view self.old.disk) self.old.parts.name items least

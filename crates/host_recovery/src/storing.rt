@@ -11,6 +11,7 @@ ghost use Rattle.log_model.specs.plain.Fitting.{ItemFits};
 ghost use Rattle.log_model.specs.hosted.Hosted.{hosted_admits, hosted_entry, hosted_expires, hosted_told};
 ghost use Rattle.log_model.specs.cleaning.Layout.{with_entry};
 ghost use Rattle.log_model.specs.replay.Replay.{replay_entry};
+ghost use Rattle.host_core.specs.Entering.{beside_after};
 ghost use Rattle.host_core.specs.Seen.{hosted};
 ghost use Rattle.host_recovery.specs.Seen.{Seen};
 ghost use Rattle.host_recovery.specs.Standing.{StandsAt, StandsOrExpires, StandsOrTakes, layout_in, log_in};
@@ -101,6 +102,7 @@ impl<D: Disk, M: Machine> Host<D, M> {
         requires range { IsInRange ((hosted M.cells self.old.core).last + 1) entry }
         ensures runs { OnOk result (self.new.stopped ≡ false) }
         ensures state { OnOk result (hosted M.cells self.new.core ≡ replay_entry (hosted_told M.decides) 0 (hosted M.cells self.old.core) ((hosted M.cells self.old.core).last + 1, entry)) }
+        ensures confirmed { OnOk result (self.new.core.sessions.beside ≡ beside_after ((hosted M.cells self.old.core).last + 1) entry.body self.old.core.sessions.beside) }
         ensures log { OnOk result (IsTrue D.tells → log_in (D.view self.new.disk) self.new.parts ≡ log_in (D.view self.old.disk) self.old.parts ++ entry ∷ []) }
         ensures layout { OnOk result (IsTrue D.tells → layout_in (D.view self.new.disk) self.new.parts ≡ with_entry self.old.size (layout_in (D.view self.old.disk) self.old.parts)) }
         ensures held { OnOk result (IsTrue D.tells → IsHeld (D.view self.old.disk) self.old.parts.name self.old.parts.tail → IsHeld (D.view self.new.disk) self.new.parts.name self.new.parts.tail) }
@@ -154,6 +156,8 @@ impl<D: Disk, M: Machine> Host<D, M> {
         ensures after { IfErr result (AfterError M.cells self.old self.new) }
         ensures state { OnAnswer result (Unit {0}) (hosted M.cells self.new.core ≡ replay_entry (hosted_told M.decides) 0 (hosted M.cells self.old.core)
             ((hosted M.cells self.old.core).last + 1, hosted_entry M.decides (hosted M.cells self.old.core) (Offered one.now))) }
+        ensures confirmed { OnAnswer result (Unit {0}) (self.new.core.sessions.beside ≡ beside_after ((hosted M.cells self.old.core).last + 1)
+            (hosted_entry M.decides (hosted M.cells self.old.core) (Offered one.now)).body self.old.core.sessions.beside) }
         ensures stands { IsTrue D.tells → (items : List Item) → StandsAt M.decides D.view M.cells self.old items
             → OnAnswer result (StandsAt M.decides D.view M.cells self.new items) (StandsAt M.decides D.view M.cells self.new (items ++ Offered one.now ∷ [])) }
         ensures layout { IsTrue D.tells → OnAnswer result (Unit {0}) (layout_in (D.view self.new.disk) self.new.parts ≡ with_entry self.old.size (layout_in (D.view self.old.disk) self.old.parts)) }
@@ -206,6 +210,7 @@ impl<D: Disk, M: Machine> Host<D, M> {
         ensures after { IfErr result (AfterError M.cells self.old self.new) }
         ensures state { OnExpiry result (Unit {0}) (λ session. hosted M.cells self.new.core ≡ replay_entry (hosted_told M.decides) 0 (hosted M.cells self.old.core)
             ((hosted M.cells self.old.core).last + 1, record { time = time; body = body.Close session true })) }
+        ensures confirmed { OnExpiry result (Unit {0}) (λ session. self.new.core.sessions.beside ≡ beside_after ((hosted M.cells self.old.core).last + 1) (body.Close session true) self.old.core.sessions.beside) }
         ensures stands { IsTrue D.tells → (items : List Item) → StandsAt M.decides D.view M.cells self.old items
             → OnExpiry result (StandsAt M.decides D.view M.cells self.new items) (λ session. StandsAt M.decides D.view M.cells self.new (items ++ Expired time session ∷ [])) }
         ensures layout { IsTrue D.tells → OnExpiry result (Unit {0}) (λ _. layout_in (D.view self.new.disk) self.new.parts ≡ with_entry self.old.size (layout_in (D.view self.old.disk) self.old.parts)) }

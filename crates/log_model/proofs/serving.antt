@@ -3,3 +3,4 @@ pub mod Chains
 pub mod Clients
 pub mod Moves
 pub mod Points
+pub mod Turns

@@ -28,5 +28,5 @@ pub use replay_laws::{
 };
 pub use serving_laws::{
     acks_are_points, batches_are_linked, batches_grow, client_takes_all, client_takes_run,
-    keeps_the_rest,
+    keeps_the_rest, serves_in_turn,
 };

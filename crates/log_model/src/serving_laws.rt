@@ -1,5 +1,5 @@
 // The laws of batches and clients.
-ghost use Rattle.log_model.specs.serving.Serving.{AcksArePoints, BatchesAreLinked, BatchesGrow, ClientTakesAll, ClientTakesRun, KeepsTheRest};
+ghost use Rattle.log_model.specs.serving.Serving.{AcksArePoints, BatchesAreLinked, BatchesGrow, ClientTakesAll, ClientTakesRun, KeepsTheRest, ServesInTurn};
 
 /// A session keeps, of the batches that it was given, those above its acknowledged event, and that event is the index before the
 /// first of them.
@@ -30,4 +30,9 @@ pub fn client_takes_run()
 /// A client that starts at the acknowledged event and is served what is kept takes it all.
 pub fn client_takes_all()
     ensures { ClientTakesAll }
+{}
+
+/// The batches that a session keeps are served one after the other.
+pub fn serves_in_turn()
+    ensures { ServesInTurn }
 {}

@@ -1,5 +1,5 @@
 -- What a caller of the table sees of one session.
-use Rattle.std.proofs.Common.{◌≡◌, ◌≢◌, ℕ, ◌≤◌, ◌==◌, Bool, true, false, cond, List, [], ◌∷◌, ◌++◌, map, length, Option, Some, None, is_some, zero, suc, ◌+◌, ◌-◌, count_by, slice_index_or, slice_set, refl, sym, ap, subst, ◌∙◌, inl, inr, arith, eqb-true, eq-eqb}
+use Rattle.std.proofs.Common.{◌≡◌, ◌≢◌, ℕ, ◌≤◌, ◌==◌, Bool, true, false, cond, List, [], ◌∷◌, ◌++◌, map, length, Option, Some, None, is_some, Result, Ok, Err, is_ok, zero, suc, ◌+◌, ◌-◌, count_by, slice_index_or, slice_set, refl, sym, ap, subst, ◌∙◌, inl, inr, arith, eqb-true, eq-eqb}
 use Rattle.std.proofs.lemmas.Bool.{cases_eq, false_from_ne_true}
 use Rattle.std.proofs.lemmas.List.Sums.{sum_by-cons}
 use Rattle.std.proofs.lemmas.Option.{none-some, same_Some}
@@ -7,6 +7,8 @@ use Rattle.std.specs.List.{find, flat_map}
 use Rattle.std.specs.VecDeque.{deque_len, deque_capacity}
 use Rattle.host_types.specs.Cells.{Place, Held, Register_at, marked}
 use Rattle.std.specs.Option.{option_map, option_map_or, IsSome, IsSomeAnd}
+use Rattle.std.specs.Prelude.{OnOk}
+use Rattle.slab.proofs.SlabLemmas.{Updates-with_value}
 use Rattle.slab.specs.Slab.{get, with_value, ContainsKey, slab_len}
 use Rattle.log_model.specs.plain.Plain.{Session}
 use Rattle.log_model.specs.plain.Step.{changed}
@@ -334,6 +336,14 @@ alive_confirmed id event (b ∷ bs) = (λ i. one (b.id == id) i ++ alive_confirm
     one : (q : Bool) → alive_place (cond q (beside_confirmed event b) b).id (cond q (beside_confirmed event b) b).alive ≡ alive_place b.id b.alive
     one true = refl
     one false = refl
+
+-- the session whose event was confirmed has confirmed it
+pub event_if : (a : Inside) (id slot event : ℕ) (kept kept' : Kept_session) {A B : Type 0} (r : Result A B) → IsInOrder (with_session a slot kept') → option_map (λ row. row.slot) (row_at id a.order.items) ≡ Some slot → get a.slots slot ≡ Some kept
+    → kept'.confirmed ≡ cond (is_ok r) event kept.confirmed → OnOk r (confirmed_of id (table (with_session a slot kept')) ≡ event)
+event_if a id slot event kept kept' (Ok x) order found there e =
+    let now = (Updates-with_value a.slots slot kept' (ap is_some there)).changed in
+    (shows_in (with_session a slot kept') (table (with_session a slot kept')) id slot kept' order refl found now).1 ∙ e
+event_if a id slot event kept kept' (Err x) order found there e = tt
 
 pub cells_if : (id event : ℕ) (b : Bool) (bs news : List Beside) → news ≡ cond b (beside_changed id (beside_confirmed event) bs) bs → cells_of news ≡ cells_of bs
 cells_if id event true bs news e = ap cells_of e ∙ (λ i. registers_confirmed id event bs i ++ alive_confirmed id event bs i)

@@ -5,6 +5,7 @@ use Rattle.std.specs.Option.{option_map, option_map_or}
 use Rattle.host_types.specs.declared.entry.Reply.{Reply}
 use Rattle.log_model.specs.plain.Plain.{Session, State, nothing_yet, session_of}
 use Rattle.log_model.specs.plain.Admission.{reply_kept}
+use Rattle.log_model.specs.serving.Positions.{Position, acked_positions}
 use Rattle.session_table.specs.declared.view.SessionView.{SessionView}
 
 -- what a session has besides: the index of its alive commit, if it has one, and the event that was confirmed last
@@ -46,6 +47,14 @@ beside_at id t = find (λ b. b.id == id) t.beside
 -- the event that the session confirmed last
 abbrev pub confirmed_of : ℕ → Table → ℕ
 confirmed_of id t = option_map_or (λ b. b.confirmed) (beside_at id t) 0
+
+-- up to which event each session has confirmed its events
+abbrev pub confirmed_positions : List Beside → List Position
+confirmed_positions bs = map (λ b. record { session = b.id; event = b.confirmed }) bs
+
+-- each has confirmed what it acknowledged, and no more
+abbrev pub ConfirmsAcked : Table → Type 0
+ConfirmsAcked t = confirmed_positions t.beside ≡ acked_positions t.sessions
 
 -- ---- room
 

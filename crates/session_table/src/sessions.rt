@@ -169,6 +169,7 @@ impl Sessions {
     pub fn confirm(&mut self, id: Index, event: Index) -> Result<(), Index>
         requires { IsOpen id self.old }
         ensures answer { is_ok result ≡ confirms id event self.old }
+        ensures event { OnOk result (confirmed_of id self.new ≡ event) }
         ensures err { IfErr result (λ at. at ≡ confirmed_of id self.old) }
         ensures sessions { self.new.sessions ≡ self.old.sessions }
         ensures beside { self.new.beside ≡ cond (is_ok result) (beside_changed id (beside_confirmed event) self.old.beside) self.old.beside }

@@ -18,7 +18,7 @@ taken_step last b offers =
     ]
 
 -- all of these are behind a client
-abbrev Behind : ℕ → List Batch → Type 0
+abbrev pub Behind : ℕ → List Batch → Type 0
 Behind last [] = Unit {0}
 Behind last (b ∷ bs) = (b.previous < last) × Behind last bs
 
@@ -82,20 +82,20 @@ run_of (b ∷ offers) pre ys last h l a = go (b.previous == last) refl (run_of o
             (k.0, taken_step last b offers ∙ ap (λ q. cond q (b ∷ taken b.index offers) (taken last offers)) t ∙ k.1)
 
 -- the batches at a point
-record Parts (p start : ℕ) (bs : List Batch) : Type 0 where
-  pre : List Batch
-  whole : bs ≡ pre ++ after_event start bs
-  behind : Behind start pre
-  rest : Linked start (after_event start bs)
-  above : p ≤ start
+pub record Parts (p start : ℕ) (bs : List Batch) : Type 0 where
+  pub pre : List Batch
+  pub whole : bs ≡ pre ++ after_event start bs
+  pub behind : Behind start pre
+  pub rest : Linked start (after_event start bs)
+  pub above : p ≤ start
 
-all_later : (p start : ℕ) (bs : List Batch) → start ≤ p → Linked p bs → after_event start bs ≡ bs
+pub all_later : (p start : ℕ) (bs : List Batch) → start ≤ p → Linked p bs → after_event start bs ≡ bs
 all_later p start [] l k = refl
 all_later p start (b ∷ bs) l k =
     let low = ltb-true p b.index k.1 in
     (λ j. cond (lt-ltb start b.index (omega arith) j) (b ∷ all_later b.index start bs (omega arith) k.2 j) (after_event start bs))
 
-parts_at : (p start : ℕ) (bs : List Batch) → Linked p bs → is_point p bs start ≡ true → Parts p start bs
+pub parts_at : (p start : ℕ) (bs : List Batch) → Linked p bs → is_point p bs start ≡ true → Parts p start bs
 parts_at p start bs k h =
     elim (start == p) as (λ q. (start == p) ≡ q → (q || list_any (λ b. b.index == start) bs) ≡ true → Parts p start bs) [
       | true ↦ λ t _. subst (λ n. Parts p n bs) (sym (eqb-true start p t)) (record { pre = []; whole = sym (all_later p p bs (omega arith) k); behind = tt; rest = subst (Linked p) (sym (all_later p p bs (omega arith) k)) k; above = omega arith })

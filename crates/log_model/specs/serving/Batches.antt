@@ -59,3 +59,23 @@ take_batch last b = cond (b.previous == last) Taken (cond (nat_le b.index last) 
 
 abbrev pub last_after : ℕ → Batch → ℕ
 last_after last b = cond (b.previous == last) b.index last
+
+-- what comes of some batches that a client is offered, one after the other: the events that are confirmed, and at which batch it ends
+pub data Turn : Type 0 where
+  Nothing_new : Turn
+  Takes : Batch → Turn
+  Misses : Batch → Turn
+
+pub record Served : Type 0 where
+  pub confirmed : List ℕ
+  pub turn : Turn
+
+-- one that it knows is confirmed, and the next one is offered; one that it takes is confirmed; one that it can't take isn't
+abbrev pub served_one : Take → Batch → Served → Served
+served_one Taken b rest = record { confirmed = b.index ∷ []; turn = Takes b }
+served_one Repeated b rest = record { confirmed = b.index ∷ rest.confirmed; turn = rest.turn }
+served_one Missed b rest = record { confirmed = []; turn = Misses b }
+
+abbrev pub serve : ℕ → List Batch → Served
+serve last [] = record { confirmed = []; turn = Nothing_new }
+serve last (b ∷ bs) = served_one (take_batch last b) b (serve last bs)

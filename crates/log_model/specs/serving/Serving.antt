@@ -1,6 +1,6 @@
 -- The batches that a session keeps among all that it is given, and what a client takes of them.
 use Rattle.std.specs.Prelude.{◌≡◌, ◌⊎◌, ℕ, Bool, nat_lt, ◌==◌, ◌||◌, List, [], ◌∷◌, ◌++◌, take, Some, IsTrue}
-use Rattle.std.specs.List.{filter, list_any}
+use Rattle.std.specs.List.{filter, find, list_any}
 use Rattle.log_model.specs.plain.Plain.{Kept_batch, Session, session_of}
 use Rattle.log_model.specs.plain.Admission.{Item}
 use Rattle.log_model.specs.plain.Step.{folded}
@@ -47,6 +47,11 @@ abbrev pub taken : ℕ → List Batch → List Batch
 taken last [] = []
 taken last (b ∷ offers) = took (take_batch last b) b (taken (last_after last b) offers)
 
+-- and the event that it took last
+abbrev pub last_taken : ℕ → List Batch → ℕ
+last_taken last [] = last
+last_taken last (b ∷ offers) = last_taken (last_after last b) offers
+
 -- it is one of these
 abbrev pub IsOneOf : Batch → List Batch → Type 0
 IsOneOf b [] = ⊥
@@ -84,3 +89,13 @@ ClientTakesAll =
     → IsTrue (is_log items)
     → session_of id (folded items) ≡ Some x
     → taken x.acked_event (chained x.acked_event x.batches) ≡ after_event x.acked_event (batches items id)
+
+-- Kept batches are served one after the other: behind the first above a confirmed event the rest is left, and it is one of all that the
+-- session was given.
+abbrev pub ServesInTurn : Type 0
+ServesInTurn =
+    (items : List Item) (id : ℕ) (x : Session) (confirmed : ℕ) (b : Batch)
+    → IsTrue (is_log items)
+    → session_of id (folded items) ≡ Some x
+    → find (λ b. nat_lt confirmed b.index) (chained x.acked_event x.batches) ≡ Some b
+    → (after_event confirmed (chained x.acked_event x.batches) ≡ b ∷ after_event b.index (chained x.acked_event x.batches)) × IsOneOf b (batches items id)

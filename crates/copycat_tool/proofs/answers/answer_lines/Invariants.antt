@@ -5,6 +5,7 @@ use Rattle.script_io.specs.Streams.{Rose}
 use Rattle.copycat_tool.specs.Report.{Run}
 use Rattle.copycat_tool.specs.Runs.{Files}
 use Rattle.copycat_tool.specs.Standing.{IsAt}
+use Rattle.copycat_tool.specs.Taking.{HasClients}
 use Rattle.copycat_tool.specs.Turning.{KeepsRun, goes_on}
 use Rattle.copycat_tool.proofs.LoopLemmas.{Met}
 use Rattle.copycat_tool.proofs.answers.answer_lines.Given as goal
@@ -12,8 +13,8 @@ use Rattle.copycat_tool.proofs.answers.answer_lines.Given as goal
 abbrev pub invariant-loop-piece : goal.invariant-loop-piece
 invariant-loop-piece g l = record {
   runs : l.host.stopped ≡ false;
-  met : IsTrue g.D.Disk.tells → (files : Files) (run : Run) → IsAt g.D.Disk.view files l.fn.host run → (bytes : List ℕ) → g.I.Source.left l.fn.script ≡ Some bytes
-      → Met g.D.Disk.view files l.fn.host l.host run l.number bytes l.reader.held l.reader.taken (g.I.Source.left l.script) (g.O.Sink.written l.fn.out) (g.O.Sink.written l.out);
+  met : IsTrue g.D.Disk.tells → (files : Files) (run : Run) → IsAt g.D.Disk.view files l.fn.host run → HasClients run l.fn.clients → (bytes : List ℕ) → g.I.Source.left l.fn.script ≡ Some bytes
+      → Met g.D.Disk.view files l.fn.host l.host run l.number bytes l.reader.held l.reader.taken (g.I.Source.left l.script) (g.O.Sink.written l.fn.out) (g.O.Sink.written l.out) l.clients;
   keeps : KeepsRun g.D.Disk.tells g.D.Disk.view g.D.Disk.faults l.fn.host l.host (g.O.Sink.faults l.fn.out) (g.O.Sink.faults l.out) ⊥ goes_on;
   front : (bytes : List ℕ) → g.I.Source.left l.fn.script ≡ Some bytes → g.I.Source.left l.script ≡ Some (drop l.reader.taken bytes);
   room : l.number + length l.reader.held ≤ l.reader.taken + 1;

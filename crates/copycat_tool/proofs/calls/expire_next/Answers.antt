@@ -21,7 +21,7 @@ returns-clause-answered g c = λ t files run at.
     let P : Result Expiring Ending → Type 0 = λ r. IfOk r (IsExpiring g.D.Disk.view files c.args.host.now c.expire-answer.new.self run c.args.time) in
     subst P (sym c.told_expiry.ensures)
     (expiry_answered (c.plain_machines_are_plain.ensures catalog_decision c.catalog_is_plain.ensures) g.D.Disk.view files c.args.host.now c.expire-answer.new.self run at keeps (g.met.D.Disk.sound c.expire-answer.new.self.disk t) e.name e.size c.args.time
-    c.expire-answer.result e.answer e.nobody e.after (e.stands t run.log at.stands) (e.layout t) (e.any_moment t run.log at.stands))
+    c.expire-answer.result e.answer e.nobody e.after (e.stands t run.log at.stands) (e.layout t) e.confirmed (e.any_moment t run.log at.stands))
 
 pub returns-clause-cut : goal.returns-clause-cut
 returns-clause-cut g c = λ t files run at.

@@ -16,7 +16,7 @@ returns-clause-answered g c = λ t files run at.
     let P : Result Printed Ending → Type 0 = λ r. IfOk r (IsTold g.D.Disk.view files c.args.host.now c.offer-answer.new.self run (answer_by (admission run c.args.one.now) run c.args.one.now)) in
     subst P (sym c.told_offer.ensures.told)
     (offer_answered (c.plain_machines_are_plain.ensures catalog_decision c.catalog_is_plain.ensures) g.D.Disk.view files c.args.host.now c.offer-answer.new.self run at keeps (g.met.D.Disk.sound c.offer-answer.new.self.disk t) e.name e.size c.args.one.now
-    c.offer-answer.result e.answer e.repeated e.after (e.stands t run.log at.stands) (e.layout t) (e.any_moment t run.log at.stands))
+    c.offer-answer.result e.answer e.repeated e.after (e.stands t run.log at.stands) (e.layout t) e.confirmed (e.any_moment t run.log at.stands))
 
 pub returns-clause-cut : goal.returns-clause-cut
 returns-clause-cut g c = λ t files run at.

@@ -25,7 +25,7 @@ returns-in-Ok-clause-answered g c = λ t files run at.
     let keeps : Keeps g.D.Disk.view c.reopen-opened.new.self = record { images = c.keeps.ensures.images t; empty = c.keeps.ensures.empty t; last = c.keeps.ensures.last; layout = c.keeps.ensures.layout t; file = c.keeps.ensures.file t } in
     subst (λ (n : ℕ). IsTold g.D.Disk.view files c.args.host.now c.reopen-opened.new.self run (reopening run) (prints.Opened n)) (sym c.last.ensures)
     (reopened (c.plain_machines_are_plain.ensures catalog_decision c.catalog_is_plain.ensures) g.D.Disk.view files c.args.host.now c.reopen-opened.new.self run at keeps (g.met.D.Disk.sound c.reopen-opened.new.self.disk t) e.name e.size
-    (e.stands t run.log at.stands) (e.layout t run.log at.stands) (e.any_moment t run.log at.stands))
+    (e.stands t run.log at.stands) (e.layout t run.log at.stands) e.confirmed (e.any_moment t run.log at.stands))
 
 pub returns-in-Err-clause-cut : goal.returns-in-Err-clause-cut
 returns-in-Err-clause-cut g c = λ t files run at.

@@ -6,8 +6,8 @@ use Rattle.copycat_tool.proofs.Keeping.{rose_before, rose_later}
 use Rattle.copycat_tool.proofs.closing.run_script.Goals as goal
 
 pub returns-clause-ran : goal.returns-clause-ran
-returns-clause-ran g c = λ t files run at bytes left.
-    let e = c.answer_script-ending.ensures.ended t files run at bytes left in
+returns-clause-ran g c = λ t files run at acked bytes left.
+    let e = c.answer_script-ending.ensures.ended t files run at acked bytes left in
     ran files run bytes _ _ _ _ _ _ _ _
     c.answer_script-ending.result (λ is. c.answer_script-ending.ensures.keeps.read_fault (ap (λ (x : Ending). Err x) is)) (λ is. c.answer_script-ending.ensures.keeps.disk_fault (ap (λ (x : Ending). Err x) is)) e _ _ _
     (subst (λ (name : List ℕ). EndsRun name c.answer_script-ending.result (g.O.Sink.written c.answer_script-ending.new.out) (g.O.Sink.written c.close_run.new.out) (g.O.Sink.faults c.answer_script-ending.new.out) (g.O.Sink.faults c.close_run.new.out) c.close_run.result.0)

@@ -15,7 +15,11 @@ use Rattle.copycat_tool.specs.Programs.{IsUnopened, RunsInOrder}
 use Rattle.copycat_tool.specs.Report.{Run}
 use Rattle.copycat_tool.specs.Runs.{Files, HasPrefix, RanSo}
 use Rattle.copycat_tool.specs.Standing.{IsAt}
-use Rattle.copycat_tool.proofs.CallLemmas.{Keeps, is_at, plain_files}
+use Rattle.log_model.specs.hosted.Hosted.{Hosted}
+use Rattle.log_model.specs.plain.Step.{folded}
+use Rattle.log_model.specs.serving.Positions.{Position, acked_positions}
+use Rattle.copycat_tool.proofs.CallLemmas.{Keeps, as_model, is_at, plain_files}
+use Rattle.copycat_tool.proofs.Offering.{begins_at_points}
 use Rattle.copycat_tool.proofs.LogLemmas.{logged_front}
 use Rattle.copycat_tool.proofs.ProgramLemmas.{damage_from, fault_from, left_plain, of_calls, opens_and_runs, stays_unopened, still_in_order, to_hosted, unopened_of}
 use Rattle.copycat_tool.proofs.RunLemmas.{causes, tells_damage}
@@ -32,18 +36,20 @@ returns-in-Ok-clause-ran g c = λ t log least order bytes left.
     let hosted = to_hosted law name log least order.logged v order in
     let o = c.in-Ok.ensures.stands t log least hosted in
     let logged = logged_front o.count log order.logged in
-    let run : Run = record { log = take o.count log; layout = layout_in m h.parts } in
+    let acked : List Position = acked_positions (folded (take o.count log)).sessions in
+    let run : Run = record { log = take o.count log; layout = layout_in m h.parts; confirmed = acked; clients = acked } in
+    let confirmed = c.in-Ok.ensures.confirmed ∙ ap (λ (s : Hosted). acked_positions s.sessions) (o.stands.state ∙ (as_model law (take o.count log) logged).same_fold) in
     let keeps : Keeps g.D.Disk.view h = record { images = c.keeps.ensures.images t; empty = c.keeps.ensures.empty t; last = c.keeps.ensures.last; layout = c.keeps.ensures.layout t; file = c.keeps.ensures.file t } in
-    let at : IsAt g.D.Disk.view files h run = is_at law g.D.Disk.view files h keeps (g.met.D.Disk.sound h.disk t) run c.in-Ok.ensures.name.0 c.in-Ok.ensures.name.1 o.stands logged refl in
+    let at : IsAt g.D.Disk.view files h run = is_at law g.D.Disk.view files h keeps (g.met.D.Disk.sound h.disk t) run c.in-Ok.ensures.name.0 c.in-Ok.ensures.name.1 o.stands logged refl confirmed in
     let opening = left_plain law name log least order.logged v m (c.in-Ok.ensures.any_moment t log least hosted) in
     let P : g.row.D.Denot → Type 0 = λ d. RunsInOrder files log least bytes (g.I.Source.left c.run_script-status.new.script) v (g.D.Disk.view d) (g.O.Sink.written c.args.out.now) (g.O.Sink.written c.run_script-status.new.out) c.run_script-status.result.0
     (Rose (g.I.Source.faults c.args.script.now) (g.I.Source.faults c.run_script-status.new.script)) (g.D.Disk.faults c.args.disk < g.D.Disk.faults d) in
-    let closed = c.run_script-status.ensures.ran t files run at bytes left in
+    let closed = c.run_script-status.ensures.ran t files run at refl bytes left in
     subst P (sym c.close.ensures)
     (record {
       text = closed.text;
       wrote = closed.wrote;
-      how = inl (opens_and_runs files log least bytes _ v m _ closed.text _ _ _ _ run o.count o.enough o.within refl (plain_files law h.parts.name name run.log logged c.in-Ok.ensures.name.0 v.reading o.read) (c.in-Ok.ensures.lies t) opening closed.time
+      how = inl (opens_and_runs files log least bytes _ v m _ closed.text _ _ _ _ run o.count o.enough o.within refl (plain_files law h.parts.name name run.log logged c.in-Ok.ensures.name.0 v.reading o.read) (c.in-Ok.ensures.lies t) refl refl (begins_at_points run logged.admitted refl) opening closed.time
           (λ rose. omega (arith, rose, c.in-Ok.ensures.cause.later)) closed.ran);
     })
 

@@ -12,11 +12,14 @@ replay_all-requires g c = record { numbered = subst (λ (n : ℕ). AreNumbered n
 pub returns-in-Ok-replay_all-clause-state : goal.returns-in-Ok-replay_all-clause-state
 returns-in-Ok-replay_all-clause-state g c = λ t.
     let told = hosted_told g.M.Machine.decides in
-    c.in-Ok-replay_all.ensures
+    c.in-Ok-replay_all.ensures.state
     ∙ ap (λ (h : Hosted). replay_from told 0 h c.load.new.entries.items) c.requires.fresh
     ∙ ap (replayed told 0) (sym (c.in-Ok.ensures.entries t))
 
 pub returns-in-Ok-replay_all-clause-last : goal.returns-in-Ok-replay_all-clause-last
 returns-in-Ok-replay_all-clause-last g c =
-    ends_with (hosted_told g.M.Machine.decides) (hosted g.M.Machine.cells c.args.core.now) (hosted g.M.Machine.cells c.replay_all.new.core) c.load.new.entries.items c.requires.fresh c.in-Ok.ensures.numbered c.in-Ok-replay_all.ensures
+    ends_with (hosted_told g.M.Machine.decides) (hosted g.M.Machine.cells c.args.core.now) (hosted g.M.Machine.cells c.replay_all.new.core) c.load.new.entries.items c.requires.fresh c.in-Ok.ensures.numbered c.in-Ok-replay_all.ensures.state
     ∙ sym c.in-Ok.ensures.last
+
+pub returns-in-Ok-replay_all-clause-confirmed : goal.returns-in-Ok-replay_all-clause-confirmed
+returns-in-Ok-replay_all-clause-confirmed g c = c.in-Ok-replay_all.ensures.confirmed c.requires.unconfirmed

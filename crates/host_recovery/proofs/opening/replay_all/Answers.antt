@@ -15,6 +15,7 @@ loop-index-init g c =
       finite = tt;
       numbered = subst (AreNumbered c.args.core.now.last) (sym is) c.requires.numbered;
       state = ap (replay_from (hosted_told g.M.Machine.decides) 0 (hosted g.M.Machine.cells c.args.core.now)) is;
+      confirmed = λ is. is;
     }
 
 pub replay-requires-clause-behind : goal.replay-requires-clause-behind
@@ -40,9 +41,10 @@ loop-index-preserved g c =
       state = ap (λ (s : Hosted). replay_from told 0 s (into_iter_items c.next.new.self)) c.in_ok-replay.ensures.ok
           ∙ ap (replay_from told 0 (hosted g.M.Machine.cells c.loop-index.core)) (sym c.in-Some.ensures.steps.0)
           ∙ c.loop-index.invariant.state;
+      confirmed = λ is. c.in_ok-replay.ensures.confirmed (c.loop-index.invariant.confirmed is);
     }
 
-pub returns : goal.returns
-returns g c =
+pub returns-clause-state : goal.returns-clause-state
+returns-clause-state g c =
     let none : into_iter_items c.loop-index.index-iterator ≡ [] = none_left (into_iter_items c.loop-index.index-iterator) (omega (arith, c.in-None.ensures.steps.0, c.loop-index.index-iterator.rest.ok.0)) in
     ap (replay_from (hosted_told g.M.Machine.decides) 0 (hosted g.M.Machine.cells c.loop-index.core)) (sym none) ∙ c.loop-index.invariant.state

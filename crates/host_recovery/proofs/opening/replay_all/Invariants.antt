@@ -3,6 +3,7 @@ use Rattle.std.specs.Vec.Iter.{into_iter_items}
 use Rattle.segment_files.specs.Contents.{AreNumbered}
 use Rattle.log_model.specs.hosted.Hosted.{hosted_told}
 use Rattle.log_model.specs.replay.Replay.{replay_from}
+use Rattle.session_table.specs.Table.{ConfirmsAcked}
 use Rattle.host_core.specs.Seen.{hosted}
 use Rattle.host_recovery.proofs.opening.replay_all.Given as goal
 
@@ -13,4 +14,5 @@ invariant-loop-index g l = record {
   numbered : AreNumbered l.core.last (into_iter_items l.index-iterator);
   state : replay_from (hosted_told g.M.Machine.decides) 0 (hosted g.M.Machine.cells l.core) (into_iter_items l.index-iterator)
       ≡ replay_from (hosted_told g.M.Machine.decides) 0 (hosted g.M.Machine.cells l.fn.core) l.fn.list.items;
+  confirmed : ConfirmsAcked l.fn.core.sessions → ConfirmsAcked l.core.sessions;
 }

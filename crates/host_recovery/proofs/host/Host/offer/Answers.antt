@@ -9,6 +9,7 @@ use Rattle.log_model.specs.replay.Replay.{replay_entry}
 use Rattle.host_core.specs.declared.deciding.Decided.{Decided}
 use Rattle.host_core.specs.declared.deciding.DecideError.{DecideError}
 use Rattle.host_core.specs.Answers.{Decides_as, IsWhy}
+use Rattle.host_core.specs.Entering.{beside_after}
 use Rattle.host_core.specs.Seen.{hosted}
 use Rattle.host_recovery.specs.Seen.{Seen}
 use Rattle.host_recovery.specs.Standing.{StandsAt, StandsOrTakes}
@@ -121,3 +122,10 @@ returns-in-Ok-store-clause-state g c =
     let old = hosted g.M.Machine.cells c.args.self.now.core in
     answered (c.last.result + 1) c.in-Ok-Store.entry.body c.in-Ok.answer _ _ c.in-Ok.ensures
     (c.in-Ok-store.ensures.state ∙ ap (λ (e : Entry). replay_entry (hosted_told g.M.Machine.decides) 0 old (old.last + 1, e)) decided.1)
+
+pub returns-in-Ok-store-clause-confirmed : goal.returns-in-Ok-store-clause-confirmed
+returns-in-Ok-store-clause-confirmed g c =
+    let decided = (subst (λ (h : Seen g.row.D.Denot g.row.M.Denot). (hosted_admits g.M.Machine.decides (hosted g.M.Machine.cells h.core) c.args.one.now ≡ Admitted) × (c.in-Ok-Store.entry ≡ hosted_entry g.M.Machine.decides (hosted g.M.Machine.cells h.core) (Offered c.args.one.now))) c.self.view_is (subst (λ (x : Decided). Decides_as (hosted_admits g.M.Machine.decides (hosted g.M.Machine.cells c.self.inside.core) c.args.one.now) (hosted_entry g.M.Machine.decides (hosted g.M.Machine.cells c.self.inside.core) (Offered c.args.one.now)) (Ok x)) c.in-Ok-Store.field-0-is c.in-Ok-Store.ensures.decided)) in
+    let old = hosted g.M.Machine.cells c.args.self.now.core in
+    answered (c.last.result + 1) c.in-Ok-Store.entry.body c.in-Ok.answer _ _ c.in-Ok.ensures
+    (c.in-Ok-store.ensures.confirmed ∙ ap (λ (e : Entry). beside_after (old.last + 1) e.body c.args.self.now.core.sessions.beside) decided.1)

@@ -5,6 +5,7 @@ use Rattle.segment_set.specs.Fits.{IsEmptyWhereNone, IsHeld, StandsOrGains, last
 use Rattle.log_model.specs.hosted.Hosted.{hosted_told}
 use Rattle.log_model.specs.cleaning.Layout.{with_entry}
 use Rattle.log_model.specs.replay.Replay.{replay_entry}
+use Rattle.host_core.specs.Entering.{beside_after}
 use Rattle.host_core.specs.Seen.{hosted}
 use Rattle.host_recovery.specs.Seen.{Seen}
 use Rattle.host_recovery.specs.Standing.{layout_in, log_in}
@@ -78,3 +79,9 @@ pub returns-in-Ok-append-clause-held : goal.returns-in-Ok-append-clause-held
 returns-in-Ok-append-clause-held g c =
     subst (λ (h : Seen g.row.D.Denot g.row.M.Denot). IsTrue g.D.Disk.tells → IsHeld (g.D.Disk.view h.disk) h.parts.name h.parts.tail → IsHeld (g.D.Disk.view c.append.new.disk) c.append.new.self.name c.append.new.self.tail) c.self.view_is
     (λ t held. subst (λ (n : List ℕ). IsHeld (g.D.Disk.view c.append.new.disk) n c.append.new.self.tail) (sym c.append.ensures.name) (c.in-Ok-append.ensures.held t held))
+
+pub returns-in-Ok-append-clause-confirmed : goal.returns-in-Ok-append-clause-confirmed
+returns-in-Ok-append-clause-confirmed g c =
+    let beside = c.reserve.ensures.sessions.beside ∙ ap (λ (h : Seen g.row.D.Denot g.row.M.Denot). h.core.sessions.beside) c.self.view_is in
+    let index = (c.last-index.ensures ∙ ap (λ (h : Seen g.row.D.Denot g.row.M.Denot). h.core.last) c.self.view_is) in
+    c.apply.ensures.beside ∙ (λ i. beside_after (index i + 1) c.args.entry.body (beside i))

@@ -2,7 +2,7 @@ use Rattle.std.proofs.Common.{◌≡◌, ◌∙◌, ap, subst, sym, arith, IfErr
 use Rattle.log_model.specs.plain.Plain.{Session}
 use Rattle.session_table.specs.Table.{Table}
 use Rattle.session_table.specs.Deadlines.{deadline}
-use Rattle.session_table.proofs.Tables.{changed_in, in_order, spare_stays, keeps_room, open_in, shows_in, slot_filled, beside_if, cells_if}
+use Rattle.session_table.proofs.Tables.{changed_in, in_order, spare_stays, keeps_room, open_in, shows_in, slot_filled, beside_if, cells_if, event_if}
 use Rattle.session_table.specs.Asked.{confirms_in}
 use Rattle.session_table.proofs.sessions.Sessions.confirm.Goals as goal
 
@@ -42,3 +42,9 @@ returns-clause-cells c =
 
 pub returns-clause-spare : goal.returns-clause-spare
 returns-clause-spare c = spare_stays c.self.inside c.args.self.now c.open_slot-slot.result c.index_mut.result.now c.confirm.new.self c.self.view_is c.index_mut.ensures.value
+
+pub returns-clause-event : goal.returns-clause-event
+returns-clause-event c =
+    event_if c.self.inside c.args.id c.open_slot-slot.result c.args.event c.index_mut.result.now c.confirm.new.self c.confirm.result
+    (in_order c.self.inside c.args.id c.open_slot-slot.result c.index_mut.result.now c.confirm.new.self c.self.invariant (changed_in c.self.inside c.args.id c.open_slot-slot.result c.index_mut.result.now c.confirm.new.self c.self.invariant c.open_slot-slot.ensures c.index_mut.ensures.value (ap (λ (x : Session). x.id) c.confirm.ensures.session)) c.index_mut.ensures.value (ap deadline c.confirm.ensures.session))
+    c.open_slot-slot.ensures c.index_mut.ensures.value c.confirm.ensures.confirmed

@@ -1,7 +1,7 @@
 use Rattle.std.proofs.Common.{◌≡◌, ◌∙◌, ℕ, List, ◌<◌, ◌∷◌, [], ◌++◌, Option, Some, length, take, subst, arith, length-append}
 use Rattle.script_text.specs.Printing.{printed_line, printed_text}
 use Rattle.copycat_tool.proofs.Writing.{wrote_part}
-use Rattle.copycat_tool.proofs.turns.put_answer.Goals as goal
+use Rattle.copycat_tool.proofs.texts.put_answer.Goals as goal
 
 some : (line : List ℕ) → 0 < length (line ++ 10 ∷ [])
 some line = omega (arith, length-append line (10 ∷ []))
