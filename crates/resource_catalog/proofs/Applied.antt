@@ -7,7 +7,8 @@ use Rattle.host_types.specs.declared.entry.Effect.TheVariants.{Put, Drop, Wipe, 
 use Rattle.host_types.specs.Cells.{Place, Held, is_of_kind, effect_covers, effect_fits, instance_fits, changed, after_effect}
 use Rattle.resource_catalog.specs.declared.slots.Slot.{Slot}
 use Rattle.resource_catalog.specs.Kinds.{any_kind}
-use Rattle.resource_catalog.specs.Parts.{Names, Slots, whole_cells, IsOwn, IsWhole}
+use Rattle.resource_catalog.specs.Parts.{Names, Slots, whole_cells, IsOwn}
+use Rattle.resource_catalog.proofs.Ordered.{InOrder}
 use Rattle.resource_catalog.specs.Steps.{IsOn, AppliedWhere, AppliedIn, is_unfit}
 use Rattle.resource_catalog.proofs.Whole.{stands_at}
 use Rattle.resource_catalog.proofs.Keeps.{own_found, own_applied, are_put, whole_changed}
@@ -19,9 +20,9 @@ kept i effect place None e = refl
 kept i effect place (Some h) e = ap (λ b. cond (not b) (Some h) None) e
 
 abbrev Result : Names → Slots → Slots → ℕ → Effect → Type 0
-Result names slots slots_now i effect = IsWhole names slots_now × (whole_cells names slots_now ≡ after_effect (whole_cells names slots) i effect)
+Result names slots slots_now i effect = InOrder names slots_now × (whole_cells names slots_now ≡ after_effect (whole_cells names slots) i effect)
 
-module _ (names : Names) (slots : Slots) (whole : IsWhole names slots) where
+module _ (names : Names) (slots : Slots) (whole : InOrder names slots) where
   -- a put on an instance without a name
   pub unfit_left : (m i : ℕ) (effect : Effect) → IsOn m effect → is_unfit (find nat_cmp m slots) effect ≡ true → whole_cells names slots ≡ after_effect (whole_cells names slots) i effect
   unfit_left m i (Put n cell content owner) on unfit =
@@ -64,13 +65,13 @@ module _ (names : Names) (slots : Slots) (whole : IsWhole names slots) where
   missing m i _ none on fit = absurd on
 
   -- the effect was applied to the instance, if that is there
-  pub applied : (m i : ℕ) (effect : Effect) (now : Slots) → IsOn m effect → is_unfit (find nat_cmp m slots) effect ≡ false → AppliedIn i effect m slots now → IsWhole names now × (whole_cells names now ≡ after_effect (whole_cells names slots) i effect)
+  pub applied : (m i : ℕ) (effect : Effect) (now : Slots) → IsOn m effect → is_unfit (find nat_cmp m slots) effect ≡ false → AppliedIn i effect m slots now → InOrder names now × (whole_cells names now ≡ after_effect (whole_cells names slots) i effect)
   applied m i effect now on fit is = go (find nat_cmp m slots) refl fit is
     where
       go : (o : Option Slot) → find nat_cmp m slots ≡ o → is_unfit o effect ≡ false → AppliedWhere i effect m o slots now → Result names slots now i effect
-      go None none unfit same = (subst (IsWhole names) (sym same) whole, ap (whole_cells names) same ∙ missing m i effect none on unfit)
+      go None none unfit same = (subst (InOrder names) (sym same) whole, ap (whole_cells names) same ∙ missing m i effect none on unfit)
       go (Some s) found unfit is =
           let own : IsOwn m is.now = own_applied m i s is.now effect (own_found slots m s whole.are_slots.own found) is.instance is.cells_now in (
-            subst (IsWhole names) (sym is.put) (whole_changed names slots whole m s is.now found own is.name is.kind),
+            subst (InOrder names) (sym is.put) (whole_changed names slots whole m s is.now found own is.name is.kind),
             ap (whole_cells names) is.put ∙ cells_on names slots whole m s is.now i effect found on (are_put slots m is.now own whole.are_slots) is.cells_now (fits_same m s effect found on unfit),
           )

@@ -1,5 +1,5 @@
 -- Operations on names: what stands at a name, and what is decided and shown there.
-use Rattle.std.proofs.Common.{◌≡◌, ℕ, ◌+◌, List, [], Option, Some, None, is_some, true, false, refl, sym, ap, subst, ◌∙◌, Result}
+use Rattle.std.proofs.Common.{◌≡◌, ℕ, ◌+◌, List, [], Option, Some, None, is_some, true, false, refl, sym, ap, subst, ◌∙◌, Result, Err, Bor}
 use Rattle.std.specs.Option.{option_map}
 use Rattle.std.specs.FinMap.Entries.{put, find}
 use Rattle.std.specs.Ordering.{nat_cmp}
@@ -17,72 +17,54 @@ use Rattle.resource_catalog.specs.declared.slots.Slot.{Slot}
 use Rattle.log_model.specs.kinds.Reading.{kind_decision}
 use Rattle.resource_catalog.specs.Kinds.{any_kind, any_instance, any_cells}
 use Rattle.resource_catalog.specs.Catalog.{part, names_in, choice_new, choice_there, choice_at, look_at}
-use Rattle.resource_catalog.specs.Parts.{Names, Slots, name_held, whole_cells, IsOwn, IsWhole}
+use Rattle.resource_catalog.specs.Parts.{Names, Slots, name_held, whole_cells, IsOwn}
+use Rattle.resource_catalog.proofs.Ordered.{InOrder}
 use Rattle.resource_catalog.specs.Steps.{IsShownAs}
 use Rattle.resource_catalog.proofs.Whole.{stands_at, at_whole}
 use Rattle.resource_catalog.proofs.Effects.{left_alone, cells_left}
 use Rattle.resource_catalog.proofs.Kept.{shown_as, whole_counted}
+use Rattle.std.specs.Prelude.{option_copied}
+use Rattle.host_types.specs.declared.entry.Refusal.TheVariants.{NoName}
 
-abbrev pub of_named : Named → ℕ × Kind
-of_named n = (n.commit, n.kind)
-
-pub mapped_none : (o : Option Named) → option_map of_named o ≡ None → o ≡ None
-mapped_none None e = refl
-mapped_none (Some n) e = absurd (cc)
-
-mapped_some : (o : Option Named) (p : ℕ × Kind) → option_map of_named o ≡ Some p → (n : Named) × (o ≡ Some n) × (of_named n ≡ p)
-mapped_some None p e = absurd (cc)
-mapped_some (Some n) p e = (n, refl, same (of_named n) p e)
-  where
-    same : (a b : ℕ × Kind) → Some a ≡ Some b → a ≡ b
-    same a b e = (cc)
-
-pub is_mapped : (o : Option Named) → is_some (option_map of_named o) ≡ is_some o
-is_mapped None = refl
-is_mapped (Some n) = refl
+pub is_copied : (o : Option (Bor Named)) → is_some (option_copied o) ≡ is_some o
+is_copied None = refl
+is_copied (Some n) = refl
 
 pub not_there : (o : Option Named) → is_some o ≡ false → o ≡ None
 not_there None e = refl
 not_there (Some n) e = absurd (cc)
 
-module _ (names : Names) (slots : Slots) (whole : IsWhole names slots) (x : List ℕ) where
+module _ (names : Names) (slots : Slots) (whole : InOrder names slots) (x : List ℕ) where
   at_found : (n : Named) → find text_cmp x names ≡ Some n → at (whole_cells names slots) (Name_at x) ≡ Some (name_held n)
   at_found n f = at_whole names slots whole.are_slots (Name_at x) ∙ ap (option_map name_held) f
 
   at_missing : find text_cmp x names ≡ None → at (whole_cells names slots) (Name_at x) ≡ None
   at_missing f = at_whole names slots whole.are_slots (Name_at x) ∙ ap (option_map name_held) f
 
-  pub resolved_there : (p : ℕ × Kind) (op : Op) (session index : ℕ) (r : Result Decision Refuse) → option_map of_named (find text_cmp x names) ≡ Some p
-      → ((cells : Cells) (s : Slot) → find nat_cmp p.0 slots ≡ Some s → IsShownAs p.0 p.1 s cells → Resolves (choice_there cells x p.0 p.1 op session index) r)
+  pub resolved_there : (n : Named) (op : Op) (session index : ℕ) (r : Result Decision Refuse) → find text_cmp x names ≡ Some n
+      → ((cells : Cells) (s : Slot) → find nat_cmp n.commit slots ≡ Some s → IsShownAs n.commit n.kind s cells → Resolves (choice_there cells x n.commit n.kind op session index) r)
       → Resolves (choice_at (whole_cells names slots) x (at (whole_cells names slots) (Name_at x)) op session index) r
-  resolved_there p op session index r e f =
-      let m = mapped_some (find text_cmp x names) p e in
-      let n = m.0 in
-      let g : (cells : Cells) (s : Slot) → find nat_cmp n.commit slots ≡ Some s → IsShownAs n.commit n.kind s cells → Resolves (choice_there cells x n.commit n.kind op session index) r =
-      subst (λ (q : ℕ × Kind). (cells : Cells) (s : Slot) → find nat_cmp q.0 slots ≡ Some s → IsShownAs q.0 q.1 s cells → Resolves (choice_there cells x q.0 q.1 op session index) r) (sym m.2) f in
-      let s = shown_as names slots x n whole m.1 in
-      subst (λ (o : Option Held). Resolves (choice_at (whole_cells names slots) x o op session index) r) (sym (at_found n m.1)) (g (whole_cells names slots) s.0 s.1 s.2)
+  resolved_there n op session index r f resolves =
+      let s = shown_as names slots x n whole f in
+      subst (λ (o : Option Held). Resolves (choice_at (whole_cells names slots) x o op session index) r) (sym (at_found n f)) (resolves (whole_cells names slots) s.0 s.1 s.2)
 
-  pub resolved_new : (op : Op) (session index : ℕ) (r : Result Decision Refuse) → option_map of_named (find text_cmp x names) ≡ None
+  pub resolved_new : (op : Op) (session index : ℕ) (r : Result Decision Refuse) → find text_cmp x names ≡ None
       → ((cells : Cells) → names_in cells ≡ Rattle.std.proofs.Common.length names → Resolves (choice_new cells x op index) r)
       → Resolves (choice_at (whole_cells names slots) x (at (whole_cells names slots) (Name_at x)) op session index) r
-  resolved_new op session index r e f =
-      subst (λ (o : Option Held). Resolves (choice_at (whole_cells names slots) x o op session index) r) (sym (at_missing (mapped_none (find text_cmp x names) e)))
-      (f (whole_cells names slots) (whole_counted names slots whole.are_slots))
+  resolved_new op session index r f resolves =
+      subst (λ (o : Option Held). Resolves (choice_at (whole_cells names slots) x o op session index) r) (sym (at_missing f))
+      (resolves (whole_cells names slots) (whole_counted names slots whole.are_slots))
 
-  pub looked_there : (p : ℕ × Kind) (op : Op) (r : Result Reply Refuse) → option_map of_named (find text_cmp x names) ≡ Some p
-      → ((s : Slot) → find nat_cmp p.0 slots ≡ Some s → Looks ((kind_decision (any_kind s.resource)).look (any_instance s.resource) (any_cells s.resource) op) r)
+  pub looked_there : (n : Named) (op : Op) (r : Result Reply Refuse) → find text_cmp x names ≡ Some n
+      → ((s : Slot) → find nat_cmp n.commit slots ≡ Some s → Looks ((kind_decision (any_kind s.resource)).look (any_instance s.resource) (any_cells s.resource) op) r)
       → Looks (look_at (whole_cells names slots) (at (whole_cells names slots) (Name_at x)) op) r
-  looked_there p op r e f =
-      let m = mapped_some (find text_cmp x names) p e in
-      let n = m.0 in
-      let s = shown_as names slots x n whole m.1 in
-      let here : find nat_cmp p.0 slots ≡ Some s.0 = ap (λ (q : ℕ × Kind). find nat_cmp q.0 slots) (sym m.2) ∙ s.1 in
-      subst (λ (o : Option Held). Looks (look_at (whole_cells names slots) o op) r) (sym (at_found n m.1))
-      (subst (λ (q : Kind × ℕ × Cells). Looks ((kind_decision q.0).look q.1 q.2 op) r) (λ i. (s.2.kind i, s.2.instance i, sym s.2.own i)) (f s.0 here))
+  looked_there n op r f looks =
+      let s = shown_as names slots x n whole f in
+      subst (λ (o : Option Held). Looks (look_at (whole_cells names slots) o op) r) (sym (at_found n f))
+      (subst (λ (q : Kind × ℕ × Cells). Looks ((kind_decision q.0).look q.1 q.2 op) r) (λ i. (s.2.kind i, s.2.instance i, sym s.2.own i)) (looks s.0 s.1))
 
-  pub looked_nowhere : (op : Op) → option_map of_named (find text_cmp x names) ≡ None → look_at (whole_cells names slots) (at (whole_cells names slots) (Name_at x)) op ≡ Rattle.std.proofs.Common.Err Rattle.host_types.specs.declared.entry.Refusal.TheVariants.NoName
-  looked_nowhere op e = ap (λ (o : Option Held). look_at (whole_cells names slots) o op) (at_missing (mapped_none (find text_cmp x names) e))
+  pub looked_nowhere : (op : Op) → find text_cmp x names ≡ None → look_at (whole_cells names slots) (at (whole_cells names slots) (Name_at x)) op ≡ Err NoName
+  looked_nowhere op f = ap (λ (o : Option Held). look_at (whole_cells names slots) o op) (at_missing f)
 
 -- every operation but two is decided by the resource
 pub choice_other : (cells : Cells) (x : List ℕ) (m : ℕ) (kind : Kind) (op : Op) (session index : ℕ) → ((k : Kind) → op ≡ Create k → ⊥) → (op ≡ Delete → ⊥) → choice_there cells x m kind op session index ≡ (kind_decision kind).resolve m (part m cells) op session index
@@ -91,10 +73,10 @@ choice_other cells x m kind Delete session index no_create no_delete = absurd (n
 choice_other cells x m kind op session index no_create no_delete = refl
 
 -- what neither puts nor takes changes nothing
-pub nothing_changes : (names : Names) (slots : Slots) (i : ℕ) → IsWhole names slots → whole_cells names slots ≡ after_effect (whole_cells names slots) i Nothing
+pub nothing_changes : (names : Names) (slots : Slots) (i : ℕ) → InOrder names slots → whole_cells names slots ≡ after_effect (whole_cells names slots) i Nothing
 nothing_changes names slots i whole = cells_left names slots whole true i Nothing (λ place. left_alone true i Nothing place (stands_at names slots place) refl refl)
 
-pub tell_changes : (names : Names) (slots : Slots) (i m : ℕ) (word : List ℕ) → IsWhole names slots → whole_cells names slots ≡ after_effect (whole_cells names slots) i (Tell m word)
+pub tell_changes : (names : Names) (slots : Slots) (i m : ℕ) (word : List ℕ) → InOrder names slots → whole_cells names slots ≡ after_effect (whole_cells names slots) i (Tell m word)
 tell_changes names slots i m word whole = cells_left names slots whole true i (Tell m word) (λ place. left_alone true i (Tell m word) place (stands_at names slots place) refl refl)
 
 pub empty_own : (m : ℕ) (s : Slot) → any_instance s.resource ≡ m → any_cells s.resource ≡ [] → IsOwn m s

@@ -15,7 +15,8 @@ use Rattle.log_model.proofs.Lookups.{any_from_found}
 use Rattle.resource_catalog.specs.declared.names.Named.{Named}
 use Rattle.resource_catalog.specs.declared.slots.Slot.{Slot}
 use Rattle.resource_catalog.specs.Kinds.{any_cells}
-use Rattle.resource_catalog.specs.Parts.{Names, Slots, name_held, name_cells, slot_cells, whole_cells, IsOwn, IsWhole}
+use Rattle.resource_catalog.specs.Parts.{Names, Slots, name_held, name_cells, slot_cells, whole_cells, IsOwn}
+use Rattle.resource_catalog.proofs.Ordered.{InOrder}
 use Rattle.resource_catalog.specs.Steps.{without_slot}
 use Rattle.resource_catalog.proofs.Entries.{to_T}
 use Rattle.resource_catalog.proofs.Whole.{held_at, stands_at, at_whole, sorted_whole, same_cells, elsewhere}
@@ -63,7 +64,7 @@ name_held_once x n (e ∷ names) f =
       | false ↦ λ g. let rest = name_held_once x n names g in omega (arith, count, rest)
     ] f
 
-module _ (names : Names) (slots : Slots) (whole : IsWhole names slots) (i : ℕ) (anew : list_any (is_in_instance i) (whole_cells names slots) ≡ false) where
+module _ (names : Names) (slots : Slots) (whole : InOrder names slots) (i : ℕ) (anew : list_any (is_in_instance i) (whole_cells names slots) ≡ false) where
   -- nothing stands in the new instance
   nothing_in : (cell : Cell) → at (whole_cells names slots) (Cell_at i cell) ≡ None
   nothing_in cell = go (at (whole_cells names slots) (Cell_at i cell)) refl
@@ -93,7 +94,7 @@ module _ (names : Names) (slots : Slots) (whole : IsWhole names slots) (i : ℕ)
       all (Alive_at q) = elsewhere i (Alive_at q) (any_cells s.resource) (to_T _ own.here) refl
 
   -- an instance that was left without a name goes
-  pub whole_cleared : places_of (whole_cells names slots) i ≡ 0 → IsWhole names (without_slot i slots)
+  pub whole_cleared : places_of (whole_cells names slots) i ≡ 0 → InOrder names (without_slot i slots)
   whole_cleared new = go (find nat_cmp i slots) refl
     where
       nameless : (s : Slot) → find nat_cmp i slots ≡ Some s → (o : Option (List ℕ)) → s.name ≡ o → o ≡ None
@@ -104,15 +105,15 @@ module _ (names : Names) (slots : Slots) (whole : IsWhole names slots) (i : ℕ)
           let here : 0 < places_of (name_cells names) i = subst (λ k. 0 < places_of (name_cells names) k) w.2 once in
           absurd (omega (arith, here, whole_places names slots i, new))
 
-      go : (o : Option Slot) → find nat_cmp i slots ≡ o → IsWhole names (without_slot i slots)
-      go None f = subst (IsWhole names) (sym (without_absent nat_cmp i slots f)) whole
+      go : (o : Option Slot) → find nat_cmp i slots ≡ o → InOrder names (without_slot i slots)
+      go None f = subst (InOrder names) (sym (without_absent nat_cmp i slots f)) whole
       go (Some s) f = whole_fewer names slots whole i s f (nameless s f s.name refl)
 
   pub free_now : find nat_cmp i (without_slot i slots) ≡ None
   free_now = find_without_slot i i slots ∙ ap (λ b. cond (not b) (find nat_cmp i slots) None) (itself i)
 
   -- the cells after the name was created
-  pub cells_created : (x : List ℕ) (kind : Kind) (n : Named) (t : Slot) → find text_cmp x names ≡ None → n.commit ≡ i → n.kind ≡ kind → any_cells t.resource ≡ [] → IsWhole (put text_cmp x n names) (put nat_cmp n.commit t (without_slot i slots))
+  pub cells_created : (x : List ℕ) (kind : Kind) (n : Named) (t : Slot) → find text_cmp x names ≡ None → n.commit ≡ i → n.kind ≡ kind → any_cells t.resource ≡ [] → InOrder (put text_cmp x n names) (put nat_cmp n.commit t (without_slot i slots))
       → whole_cells (put text_cmp x n names) (put nat_cmp n.commit t (without_slot i slots)) ≡ after_effect (whole_cells names slots) i (Create x kind)
   cells_created x kind n t absent index same_kind empty now =
       same_cells (put text_cmp x n names) (put nat_cmp n.commit t (without_slot i slots)) (after_effect (whole_cells names slots) i (Create x kind)) (to_T _ now.names_rise) now.are_slots
@@ -165,7 +166,7 @@ module _ (names : Names) (slots : Slots) (whole : IsWhole names slots) (i : ℕ)
               sym (ap (λ (o : Option Slot). held_at o (Cell_at k cell)) (new ∙ ap (λ b. cond b (Some t) (find nat_cmp k (without_slot i slots))) e ∙ find_without_slot k i slots ∙ ap (λ b. cond (not b) (find nat_cmp k slots) None) (turned e)))
 
 -- a name that is there stays as it is
-pub create_unfit : (names : Names) (slots : Slots) → IsWhole names slots → (i : ℕ) (x : List ℕ) (kind : Kind) → is_some (find text_cmp x names) ≡ true → whole_cells names slots ≡ after_effect (whole_cells names slots) i (Create x kind)
+pub create_unfit : (names : Names) (slots : Slots) → InOrder names slots → (i : ℕ) (x : List ℕ) (kind : Kind) → is_some (find text_cmp x names) ≡ true → whole_cells names slots ≡ after_effect (whole_cells names slots) i (Create x kind)
 create_unfit names slots whole i x kind there =
     cells_left names slots whole false i (Create x kind) (λ place. kept place (stands_at names slots place)) ∙ ap (λ b. changed b (whole_cells names slots) i (Create x kind)) (sym fits)
   where

@@ -5,15 +5,17 @@ use Rattle.std.specs.FinMap.Entries.{by_order, put, find, where_key, below_all, 
 use Rattle.std.specs.Ordering.{nat_cmp, is_eq, is_lt, eq_by_cmp}
 use Rattle.std.specs.Cmp.{nat_cmp_total, tied_itself}
 use Rattle.host_types.specs.declared.entry.Cell.{Cell}
+use Rattle.host_types.specs.declared.entry.Effect.{Effect}
 use Rattle.host_types.specs.declared.entry.Effect.TheVariants.{Delete}
 use Rattle.host_types.specs.Cells.{Place, Name_at, Cell_at, Register_at, Alive_at, Held, Cells, text_cmp, is_text, at, instance_after, after_effect}
 use Rattle.host_types.proofs.Places.{place_total}
 use Rattle.host_types.proofs.CellLaws.{is_sorted-changed}
 use Rattle.resource_catalog.specs.declared.names.Named.{Named}
 use Rattle.resource_catalog.specs.declared.slots.Slot.{Slot}
-use Rattle.resource_catalog.specs.Kinds.{any_kind, any_instance, any_cells}
+use Rattle.resource_catalog.specs.Kinds.{any_kind, any_instance, any_cells, AnyIsReady}
 use Rattle.resource_catalog.specs.Catalog.{is_place_of}
-use Rattle.resource_catalog.specs.Parts.{Names, Slots, name_held, slot_cells, whole_cells, IsOwn, IsWhole}
+use Rattle.resource_catalog.specs.Parts.{Names, Slots, name_held, slot_cells, whole_cells, IsOwn, ResourceIsReady}
+use Rattle.resource_catalog.proofs.Ordered.{InOrder}
 use Rattle.resource_catalog.specs.Steps.{without_name, without_slot, unnamed, unnamed_by, unname_at, tidied, is_named_at, AppliedWhere, AppliedIn}
 use Rattle.resource_catalog.proofs.Entries.{parts, to_T, is_less, missing_below}
 use Rattle.resource_catalog.proofs.Whole.{held_at, elsewhere, stands_at, at_whole, sorted_whole, same_cells}
@@ -86,12 +88,12 @@ same_held None (Some t) place e = absurd (cc)
 same_held (Some s) None place e = absurd (cc)
 same_held (Some s) (Some t) place e = let same : s.resource ≡ t.resource = (cc) in ap (λ r. at (any_cells r) place) same
 
-pub whole_without : (names : Names) (slots : Slots) (x : List ℕ) → IsWhole names slots → IsWhole (without_name x names) (unnamed_by (find text_cmp x names) slots)
+pub whole_without : (names : Names) (slots : Slots) (x : List ℕ) → InOrder names slots → InOrder (without_name x names) (unnamed_by (find text_cmp x names) slots)
 whole_without names slots x whole = go (find text_cmp x names) refl
   where
-    go : (o : Option Named) → find text_cmp x names ≡ o → IsWhole (without_name x names) (unnamed_by o slots)
-    go None f = subst (λ (l : Names). IsWhole l slots) (sym (without_absent text_cmp x names f)) whole
-    go (Some n) f = let p = whole.placed x n f in subst (λ (o : Option Slot). IsWhole (without_name x names) (unname_at n.commit o slots)) (sym p.1) (whole_unnamed names slots whole x n p.0 f p.1)
+    go : (o : Option Named) → find text_cmp x names ≡ o → InOrder (without_name x names) (unnamed_by o slots)
+    go None f = subst (λ (l : Names). InOrder l slots) (sym (without_absent text_cmp x names f)) whole
+    go (Some n) f = let p = whole.placed x n f in subst (λ (o : Option Slot). InOrder (without_name x names) (unname_at n.commit o slots)) (sym p.1) (whole_unnamed names slots whole x n p.0 f p.1)
 
 -- ---- a resource that was deleted
 
@@ -136,15 +138,15 @@ find_tidied k m slots place empty = go (is_named_at (find nat_cmp m slots))
     go true = refl
     go false = ap (λ (o : Option Slot). held_at o place) (find_without_slot k m slots) ∙ on (eq_by_cmp nat_cmp m k) refl
 
-pub whole_tidied : (names : Names) (slots : Slots) (m : ℕ) → IsWhole names slots → IsWhole names (tidied m slots)
+pub whole_tidied : (names : Names) (slots : Slots) (m : ℕ) → InOrder names slots → InOrder names (tidied m slots)
 whole_tidied names slots m whole = go (find nat_cmp m slots) refl
   where
-    on : (s : Slot) → find nat_cmp m slots ≡ Some s → (o : Option (List ℕ)) → s.name ≡ o → IsWhole names (cond (is_some o) slots (without_slot m slots))
+    on : (s : Slot) → find nat_cmp m slots ≡ Some s → (o : Option (List ℕ)) → s.name ≡ o → InOrder names (cond (is_some o) slots (without_slot m slots))
     on s f None e = whole_fewer names slots whole m s f e
     on s f (Some x) e = whole
 
-    go : (o : Option Slot) → find nat_cmp m slots ≡ o → IsWhole names (cond (is_named_at o) slots (without_slot m slots))
-    go None f = subst (IsWhole names) (sym (without_absent nat_cmp m slots f)) whole
+    go : (o : Option Slot) → find nat_cmp m slots ≡ o → InOrder names (cond (is_named_at o) slots (without_slot m slots))
+    go None f = subst (InOrder names) (sym (without_absent nat_cmp m slots f)) whole
     go (Some s) f = on s f s.name refl
 
 -- an instance without cells goes, and the cells stay
@@ -170,8 +172,8 @@ tidied_cells m slots h empty = go (is_named_at (find nat_cmp m slots))
 
 -- ---- after the steps of a delete
 
-module _ (names : Names) (slots : Slots) (whole : IsWhole names slots) (x : List ℕ) (m i : ℕ) where
-  whole1 : IsWhole (without_name x names) (unnamed_by (find text_cmp x names) slots)
+module _ (names : Names) (slots : Slots) (whole : InOrder names slots) (x : List ℕ) (m i : ℕ) where
+  whole1 : InOrder (without_name x names) (unnamed_by (find text_cmp x names) slots)
   whole1 = whole_without names slots x whole
 
   -- after the resource was deleted, it has no cells
@@ -185,13 +187,13 @@ module _ (names : Names) (slots : Slots) (whole : IsWhole names slots) (x : List
           let same : is.now ≡ s = (let both : Some is.now ≡ Some s = sym here ∙ f in (cc)) in
           ap (λ (r : Slot). any_cells r.resource) (sym same) ∙ deleted_empty i m x t is.now (own_found (unnamed_by (find text_cmp x names) slots) m t whole1.are_slots.own g) is.cells_now
 
-  pub whole_now : (now : Slots) → AppliedIn i (Delete x m) m (unnamed_by (find text_cmp x names) slots) now → IsWhole (without_name x names) now
+  pub whole_now : (now : Slots) → AppliedIn i (Delete x m) m (unnamed_by (find text_cmp x names) slots) now → InOrder (without_name x names) now
   whole_now now is = go (find nat_cmp m (unnamed_by (find text_cmp x names) slots)) refl is
     where
-      go : (o : Option Slot) → find nat_cmp m (unnamed_by (find text_cmp x names) slots) ≡ o → AppliedWhere i (Delete x m) m o (unnamed_by (find text_cmp x names) slots) now → IsWhole (without_name x names) now
-      go None g same = subst (IsWhole (without_name x names)) (sym same) whole1
+      go : (o : Option Slot) → find nat_cmp m (unnamed_by (find text_cmp x names) slots) ≡ o → AppliedWhere i (Delete x m) m o (unnamed_by (find text_cmp x names) slots) now → InOrder (without_name x names) now
+      go None g same = subst (InOrder (without_name x names)) (sym same) whole1
       go (Some t) g is =
-          subst (IsWhole (without_name x names)) (sym is.put)
+          subst (InOrder (without_name x names)) (sym is.put)
           (whole_changed (without_name x names) (unnamed_by (find text_cmp x names) slots) whole1 m t is.now g (own_applied m i t is.now (Delete x m) (own_found (unnamed_by (find text_cmp x names) slots) m t whole1.are_slots.own g) is.instance is.cells_now) is.name is.kind)
 
   -- the other instances have what they had

@@ -18,7 +18,8 @@ use Rattle.resource_catalog.specs.declared.names.Named.{Named}
 use Rattle.resource_catalog.specs.declared.slots.Slot.{Slot}
 use Rattle.resource_catalog.specs.Kinds.{any_kind, any_instance, any_cells}
 use Rattle.resource_catalog.specs.Catalog.{is_place_of}
-use Rattle.resource_catalog.specs.Parts.{Names, Slots, name_held, whole_cells, AreSlots, IsWhole}
+use Rattle.resource_catalog.specs.Parts.{Names, Slots, name_held, whole_cells}
+use Rattle.resource_catalog.proofs.Ordered.{AreSlots, InOrder}
 use Rattle.resource_catalog.specs.Steps.{IsOn}
 use Rattle.resource_catalog.proofs.Entries.{to_T, is_equal}
 use Rattle.resource_catalog.proofs.Whole.{held_at, stands_at, at_whole, sorted_whole, same_cells}
@@ -114,7 +115,7 @@ fits_slot (Some s) cell content = is_some s.name && is_of_kind (any_kind s.resou
 some_held : (n : Named) (held : Held) → option_map name_held (Some n) ≡ Some held → name_held n ≡ held
 some_held n held e = (cc)
 
-module _ (names : Names) (slots : Slots) (whole : IsWhole names slots) where
+module _ (names : Names) (slots : Slots) (whole : InOrder names slots) where
   sorted : T (is_sorted place_cmp (whole_cells names slots))
   sorted = sorted_whole names slots (to_T _ whole.names_rise) whole.are_slots
 

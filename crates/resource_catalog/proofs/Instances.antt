@@ -17,7 +17,8 @@ use Rattle.resource_catalog.specs.declared.slots.Slot.{Slot}
 use Rattle.log_model.specs.kinds.Reading.{kind_decision}
 use Rattle.resource_catalog.specs.Kinds.{any_kind, any_instance, any_cells}
 use Rattle.resource_catalog.specs.Catalog.{part, instances, tells_named, closes_kind}
-use Rattle.resource_catalog.specs.Parts.{Names, Slots, name_held, whole_cells, IsWhole}
+use Rattle.resource_catalog.specs.Parts.{Names, Slots, name_held, whole_cells}
+use Rattle.resource_catalog.proofs.Ordered.{InOrder}
 use Rattle.resource_catalog.specs.Steps.{tells_at, closes_by, closes_in}
 use Rattle.resource_catalog.proofs.Entries.{both, parts, to_T}
 use Rattle.resource_catalog.proofs.Keeps.{own_found}
@@ -71,7 +72,7 @@ find_named k (e ∷ slots) h =
           elim (named_as e.1) as (λ o. find nat_cmp k (named_first e.0 o (named_slots slots)) ≡ named_at (find nat_cmp k slots)) [ None ↦ rest | Some y ↦ ap (λ b. cond b (Some y) (find nat_cmp k (named_slots slots))) t ∙ rest ]
     ] refl
 
-module _ (names : Names) (slots : Slots) (whole : IsWhole names slots) where
+module _ (names : Names) (slots : Slots) (whole : InOrder names slots) where
   abbrev cells : Cells
   cells = whole_cells names slots
 

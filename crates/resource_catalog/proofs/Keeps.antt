@@ -15,7 +15,8 @@ use Rattle.resource_catalog.specs.declared.names.Named.{Named}
 use Rattle.resource_catalog.specs.declared.slots.Slot.{Slot}
 use Rattle.resource_catalog.specs.Kinds.{any_kind, any_instance, any_cells}
 use Rattle.resource_catalog.specs.Catalog.{is_place_of}
-use Rattle.resource_catalog.specs.Parts.{Names, Slots, IsOwn, AreOwn, AreSlots, IsWhole}
+use Rattle.resource_catalog.specs.Parts.{Names, Slots, IsOwn, AreOwn}
+use Rattle.resource_catalog.proofs.Ordered.{AreSlots, InOrder}
 use Rattle.resource_catalog.specs.Steps.{without_name, without_slot, unnamed}
 use Rattle.resource_catalog.proofs.Entries.{to_T, from_T, is_equal, all_where, all_put}
 use Rattle.resource_catalog.proofs.Texts.{text_total}
@@ -116,9 +117,9 @@ own_kept m s t own same cells = record {
 
 -- ---- the whole
 
-module _ (names : Names) (slots : Slots) (whole : IsWhole names slots) where
+module _ (names : Names) (slots : Slots) (whole : InOrder names slots) where
   -- an instance that changes keeps its name and its kind
-  pub whole_changed : (m : ℕ) (s t : Slot) → find nat_cmp m slots ≡ Some s → IsOwn m t → t.name ≡ s.name → any_kind t.resource ≡ any_kind s.resource → IsWhole names (put nat_cmp m t slots)
+  pub whole_changed : (m : ℕ) (s t : Slot) → find nat_cmp m slots ≡ Some s → IsOwn m t → t.name ≡ s.name → any_kind t.resource ≡ any_kind s.resource → InOrder names (put nat_cmp m t slots)
   whole_changed m s t found own name kind = record {
     names_rise = whole.names_rise;
     are_slots = are_put slots m t own whole.are_slots;
@@ -150,7 +151,7 @@ module _ (names : Names) (slots : Slots) (whole : IsWhole names slots) where
           go false e g = whole.named k r x g h
 
   -- a name that goes, with the name of its instance
-  pub whole_unnamed : (x : List ℕ) (n : Named) (s : Slot) → find text_cmp x names ≡ Some n → find nat_cmp n.commit slots ≡ Some s → IsWhole (without_name x names) (put nat_cmp n.commit (unnamed s) slots)
+  pub whole_unnamed : (x : List ℕ) (n : Named) (s : Slot) → find text_cmp x names ≡ Some n → find nat_cmp n.commit slots ≡ Some s → InOrder (without_name x names) (put nat_cmp n.commit (unnamed s) slots)
   whole_unnamed x n s found there = record {
     names_rise = from_T _ (is_sorted-where_key text_cmp (λ z. not (eq_by_cmp text_cmp x z)) names (to_T _ whole.names_rise));
     are_slots = are_put slots n.commit (unnamed s) (own_kept n.commit s (unnamed s) (own_found slots n.commit s whole.are_slots.own there) refl refl) whole.are_slots;
@@ -211,7 +212,7 @@ module _ (names : Names) (slots : Slots) (whole : IsWhole names slots) where
               keep false t = (was.0, find_without_name y x names ∙ ap (λ b. cond (not b) (find text_cmp y names) None) t ∙ was.1, was.2)
 
   -- an instance that has no name goes
-  pub whole_fewer : (m : ℕ) (s : Slot) → find nat_cmp m slots ≡ Some s → s.name ≡ None → IsWhole names (without_slot m slots)
+  pub whole_fewer : (m : ℕ) (s : Slot) → find nat_cmp m slots ≡ Some s → s.name ≡ None → InOrder names (without_slot m slots)
   whole_fewer m s found nameless = record {
     names_rise = whole.names_rise;
     are_slots = are_without slots m whole.are_slots;
@@ -242,7 +243,7 @@ module _ (names : Names) (slots : Slots) (whole : IsWhole names slots) where
           go false e = (was.0, find_without_slot n.commit m slots ∙ ap (λ b. cond (not b) (find nat_cmp n.commit slots) None) e ∙ was.1, was.2, was.3)
 
   -- a new name with a new instance
-  pub whole_more : (x : List ℕ) (n : Named) (t : Slot) → find text_cmp x names ≡ None → find nat_cmp n.commit slots ≡ None → IsOwn n.commit t → t.name ≡ Some x → any_kind t.resource ≡ n.kind → IsWhole (put text_cmp x n names) (put nat_cmp n.commit t slots)
+  pub whole_more : (x : List ℕ) (n : Named) (t : Slot) → find text_cmp x names ≡ None → find nat_cmp n.commit slots ≡ None → IsOwn n.commit t → t.name ≡ Some x → any_kind t.resource ≡ n.kind → InOrder (put text_cmp x n names) (put nat_cmp n.commit t slots)
   whole_more x n t absent free own name kind = record {
     names_rise = from_T _ (is_sorted-put text_cmp text_total x n names (to_T _ whole.names_rise));
     are_slots = are_put slots n.commit t own whole.are_slots;

@@ -9,6 +9,7 @@ pub mod Instances
 pub mod Keeps
 pub mod Kept
 pub mod Loops
+pub mod Ordered
 pub mod Places
 pub mod PlainLaws
 pub mod Released

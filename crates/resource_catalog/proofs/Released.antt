@@ -3,7 +3,7 @@ use Rattle.std.proofs.Common.{◌≡◌, ℕ, ◌+◌, ◌∙◌, arith}
 use Rattle.host_types.specs.Cells.{places_of}
 use Rattle.commit_lending.specs.Lent.{Lent, tokens, one_of}
 use Rattle.machine.specs.Release.{AreOut, Releases, Retires}
-use Rattle.machine.proofs.ReleaseLaws.{AreApart, both_held, apart_by_tokens, are_out_with, are_out_second, are_out_beside, releases_none, releases_both, releases_as}
+use Rattle.machine.proofs.ReleaseLaws.{AreApart, both_held, apart_by_tokens, are_out_with, are_out_first, are_out_second, are_out_beside, releases_none, releases_both, releases_as}
 use Rattle.resource_catalog.specs.Parts.{Names, Slots, name_cells, slot_cells, whole_cells}
 use Rattle.resource_catalog.proofs.Places.{places_joined, are_out_as}
 

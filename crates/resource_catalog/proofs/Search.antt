@@ -1,8 +1,8 @@
 -- A search among entries by rising key, and what stands after an entry is put or taken out where it ended.
-use Rattle.std.proofs.Common.{◌≡◌, ℕ, zero, suc, ◌<◌, ◌≤◌, Bool, cond, not, T, List, [], ◌∷◌, ◌++◌, length, take, drop, get_or, set, Some, None, Result, Ok, Err, IfOk, IfErr, refl, sym, ap, subst, ◌∙◌, Ordering, Less, Equal, Greater, arith}
+use Rattle.std.proofs.Common.{◌≡◌, ℕ, zero, suc, ◌<◌, ◌≤◌, Bool, cond, not, T, List, [], ◌∷◌, ◌++◌, length, take, drop, get_or, set, Some, None, Result, Ok, Err, IfOk, IfErr, refl, sym, ap, subst, ◌∙◌, Ordering, Less, Equal, Greater, arith, ◌&&◌, true, false}
 use Rattle.std.specs.List.{list_all}
 use Rattle.std.specs.List.Sorted.{IsSearchInRange, IsBinarySearchResult, IsNonDecreasingBy}
-use Rattle.std.specs.FinMap.Entries.{by_order, put, where_key, find, below_all, is_sorted}
+use Rattle.std.specs.FinMap.Entries.{by_order, put, where_key, find, below_all, is_sorted, is_sorted-put, is_sorted-where_key}
 use Rattle.std.specs.Ordering.{is_eq, is_lt, ordering_reverse, ordering_index, eq_by_cmp}
 use Rattle.std.specs.Cmp.{IsTotalOrder, tied_back, alike_right}
 use Rattle.std.proofs.lemmas.List.{take-append-drop}
@@ -192,3 +192,31 @@ module _ {K X : Type 0} {R : K → K → Ordering} (total : IsTotalOrder R) wher
   where_gap es k i at =
       ap (where_key R (λ x. not (eq_by_cmp R k x))) (sym (take-append-drop i es)) ∙ where_front k (take i es) (drop i es) (to_T _ at.before)
       ∙ ap (λ l. take i es ++ l) (where_back k (drop i es) (to_T _ at.behind)) ∙ take-append-drop i es
+
+-- ---- what stands still rises
+
+module _ {K X : Type 0} (R : K → K → Ordering) where
+  below_again : (x k : K) (v w : X) (front back : List (K × X)) → below_all R x (front ++ (k, v) ∷ back) ≡ below_all R x (front ++ (k, w) ∷ back)
+  below_again x k v w [] back = refl
+  below_again x k v w (e ∷ front) back = ap (λ b. is_lt (R x e.0) && b) (below_again x k v w front back)
+
+  sorted_again : (k : K) (v w : X) (front back : List (K × X)) → is_sorted R (front ++ (k, v) ∷ back) ≡ is_sorted R (front ++ (k, w) ∷ back)
+  sorted_again k v w [] back = refl
+  sorted_again k v w (e ∷ front) back = λ j. below_again e.0 k v w front back j && sorted_again k v w front back j
+
+  -- where an entry keeps its key
+  pub rises_set : (es : List (K × X)) (i : ℕ) (e : K × X) (k : K) (v : X) → i < length es → es ≡ take i es ++ e ∷ drop (suc i) es → k ≡ e.0 → is_sorted R es ≡ true → is_sorted R (set es i (k, v)) ≡ true
+  rises_set es i e k v less split same h =
+      ap (is_sorted R) (set_split es i (k, v) less ∙ ap (λ q. take i es ++ (q, v) ∷ drop (suc i) es) same) ∙ sorted_again e.0 v e.1 (take i es) (drop (suc i) es) ∙ sym (ap (is_sorted R) split) ∙ h
+
+module _ {K X : Type 0} {R : K → K → Ordering} (total : IsTotalOrder R) where
+  pub rises_put : (k : K) (v : X) (es now : List (K × X)) → now ≡ put R k v es → is_sorted R es ≡ true → is_sorted R now ≡ true
+  rises_put k v es now same h = ap (is_sorted R) same ∙ from_T _ (is_sorted-put R total k v es (to_T _ h))
+
+pub rises_where : {K X : Type 0} (R : K → K → Ordering) (keep : K → Bool) (es now : List (K × X)) → now ≡ where_key R keep es → is_sorted R es ≡ true → is_sorted R now ≡ true
+rises_where R keep es now same h = ap (is_sorted R) same ∙ from_T _ (is_sorted-where_key R keep es (to_T _ h))
+
+-- whether or not an entry was put
+pub rises_either : {K X : Type 0} (R : K → K → Ordering) (b : Bool) (es more now : List (K × X)) → now ≡ cond b more es → is_sorted R more ≡ true → is_sorted R es ≡ true → is_sorted R now ≡ true
+rises_either R true es more now same h k = ap (is_sorted R) same ∙ h
+rises_either R false es more now same h k = ap (is_sorted R) same ∙ k

@@ -12,7 +12,8 @@ use Rattle.host_types.proofs.Places.{place_total, exact_places}
 use Rattle.resource_catalog.specs.declared.slots.Slot.{Slot}
 use Rattle.resource_catalog.specs.Kinds.{any_cells}
 use Rattle.resource_catalog.specs.Catalog.{is_place_of}
-use Rattle.resource_catalog.specs.Parts.{Names, Slots, name_held, name_cells, slot_cells, whole_cells, AreOwn, AreSlots}
+use Rattle.resource_catalog.specs.Parts.{Names, Slots, name_held, name_cells, slot_cells, whole_cells, AreOwn}
+use Rattle.resource_catalog.proofs.Ordered.{AreSlots}
 use Rattle.resource_catalog.proofs.Entries.{both, parts, to_T, from_T, is_less, is_equal, first_of, first_of_none, find_joined, below_joined, sorted_joined, missing_below, found_passes}
 
 -- ---- names

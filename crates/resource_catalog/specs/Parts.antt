@@ -1,5 +1,5 @@
 -- What a catalog holds, and its cells.
-use Rattle.std.specs.Prelude.{◌≡◌, ℕ, ◌≤◌, List, [], ◌∷◌, ◌++◌, Option, Some, IsTrue}
+use Rattle.std.specs.Prelude.{◌≡◌, ℕ, ◌≤◌, true, List, [], ◌∷◌, ◌++◌, Option, Some, IsTrue}
 use Rattle.std.specs.List.{list_all}
 use Rattle.std.specs.FinMap.Entries.{find, is_sorted}
 use Rattle.std.specs.Ordering.{nat_cmp}
@@ -52,15 +52,9 @@ abbrev pub AreOwn : Slots → Type 0
 AreOwn [] = Unit {0}
 AreOwn (e ∷ slots) = IsOwn e.0 e.1 × AreOwn slots
 
--- instances by rising number, each with cells of its own
-pub record AreSlots (slots : Slots) : Type 0 where
-  pub rises : IsTrue (is_sorted nat_cmp slots)
-  pub own : AreOwn slots
-
--- names rise, each has its instance, and an instance that has a name is that of the name
+-- each name has its instance, and an instance that has a name is that of the name; each instance has cells of its own
 pub record IsWhole (names : Names) (slots : Slots) : Type 0 where
-  pub names_rise : IsTrue (is_sorted text_cmp names)
-  pub are_slots : AreSlots slots
+  pub own : AreOwn slots
   pub placed : (x : List ℕ) (n : Named) → find text_cmp x names ≡ Some n → (s : Slot) × (find nat_cmp n.commit slots ≡ Some s) × (s.name ≡ Some x) × (any_kind s.resource ≡ n.kind)
   pub named : (m : ℕ) (s : Slot) (x : List ℕ) → find nat_cmp m slots ≡ Some s → s.name ≡ Some x → (n : Named) × (find text_cmp x names ≡ Some n) × (n.commit ≡ m)
 

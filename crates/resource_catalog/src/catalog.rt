@@ -1,6 +1,6 @@
 // A machine of named resources.
 ghost use Rattle.std.specs.Prelude.{◌≡◌, ℕ, ◌+◌, ◌≤◌, ◌<◌, ◌==◌, ◌-◌, ◌++◌, [], true, false, Some, None, is_some, IsTrue, IfOk, OnOk, OnErr, length, take, vec_len, vec_capacity};
-ghost use Rattle.std.specs.FinMap.Entries.{find, is_sorted};
+ghost use Rattle.std.specs.FinMap.Entries.{find};
 ghost use Rattle.std.specs.List.{list_any};
 ghost use Rattle.std.specs.Ordering.{nat_cmp};
 ghost use Rattle.machine.specs.Answers.{Resolves};
@@ -18,11 +18,8 @@ ghost use Rattle.resource_catalog.specs.declared.slots.Slot.{Slot as ASlot};
 ghost use Rattle.resource_catalog.specs.Steps.{IsApplied, IsOn, is_unfit, without_name, unnamed_by, tidied, HasAdded, IsShownAs};
 
 use crate::kinds::AnyResource;
-use crate::names::{Named, add_name, end_names, find_name, list_names, take_name};
-use crate::slots::{
-    Slot, add_slot, apply_in, end_slots, forget_in_all, is_named, list_slots, look_in, prepare_in,
-    resolve_in, take_empty, tells_close, tells_in, unname,
-};
+use crate::names::{Named, Names};
+use crate::slots::{Slot, Slots};
 use commit_lending::{Commit, Lender};
 use host_types::{Effect, Index, Key, Kind, NoMemory, Op, Reply};
 use machine::{Decision, Machine, Place, Refuse, Told, close_own};
@@ -32,76 +29,66 @@ use std::marker::Model;
 /// How many names there are at most.
 const NAME_LIMIT: usize = 1024;
 
-fn is_unfit(slots: &[(Index, Slot)], instance: Index, effect: &Effect) -> bool
-    requires { IsTrue (is_sorted nat_cmp slots.now) }
-    ensures { result ≡ is_unfit (find nat_cmp instance slots.now) effect.now }
+fn is_unfit(slots: &Slots, instance: Index, effect: &Effect) -> bool
+    ensures { result ≡ is_unfit (find nat_cmp instance slots.now.entries.items) effect.now }
 {
     match effect {
-        Effect::Put { .. } => !is_named(slots, instance),
+        Effect::Put { .. } => !slots.is_named(instance),
         _ => false,
     }
 }
 
 // Applies an effect that changes cells of one instance. A put doesn't fit where the instance has no name.
 fn apply_on(
-    names: &[(Key, Named)],
-    slots: &mut Vec<(Index, Slot)>,
+    names: &Names,
+    slots: &mut Slots,
     instance: Index,
     commit: Commit,
     effect: &Effect,
     lender: &mut Lender,
 )
     requires on { IsOn instance effect.now }
-    requires whole { IsWhole names.now slots.old.items }
-    requires ready { ResourceIsReady slots.old.items instance effect.now commit }
-    requires held { AreOut (places_of (whole_cells names.now slots.old.items)) lender.old }
-    requires new { places_of (whole_cells names.now slots.old.items) commit ≡ 0 }
+    requires whole { IsWhole names.now.entries.items slots.old.entries.items }
+    requires ready { ResourceIsReady slots.old.entries.items instance effect.now commit }
+    requires held { AreOut (places_of (whole_cells names.now.entries.items slots.old.entries.items)) lender.old }
+    requires new { places_of (whole_cells names.now.entries.items slots.old.entries.items) commit ≡ 0 }
     requires lent { tokens lender.old commit ≡ 1 }
-    ensures { IsApplied commit effect.now names.now slots.old.items names.now slots.new.items lender.old lender.new }
+    ensures { IsApplied commit effect.now names.now.entries.items slots.old.entries.items names.now.entries.items slots.new.entries.items lender.old lender.new }
 {
     if is_unfit(slots, instance, effect) {
         close_own(commit, lender);
     } else {
-        apply_in(slots, instance, commit, effect, lender);
+        slots.apply(instance, commit, effect, lender);
     }
 }
 
 // Takes a name out, and closes its commit. Its instance has no name any more.
-fn drop_name(
-    names: &mut Vec<(Key, Named)>,
-    slots: &mut Vec<(Index, Slot)>,
-    name: &Key,
-    by: Index,
-    lender: &mut Lender,
-)
-    requires names { IsTrue (is_sorted text_cmp names.old.items) }
-    requires slots { IsTrue (is_sorted nat_cmp slots.old.items) }
-    requires held { AreOut (places_of (name_cells names.old.items)) lender.old }
-    ensures names { names.new.items ≡ without_name name.now names.old.items }
-    ensures slots { slots.new.items ≡ unnamed_by (find text_cmp name.now names.old.items) slots.old.items }
-    ensures released { Releases (places_of (name_cells names.old.items)) (places_of (name_cells names.new.items)) by lender.old lender.new }
+fn drop_name(names: &mut Names, slots: &mut Slots, name: &Key, by: Index, lender: &mut Lender)
+    requires { AreOut (places_of (name_cells names.old.entries.items)) lender.old }
+    ensures names { names.new.entries.items ≡ without_name name.now names.old.entries.items }
+    ensures slots { slots.new.entries.items ≡ unnamed_by (find text_cmp name.now names.old.entries.items) slots.old.entries.items }
+    ensures released { Releases (places_of (name_cells names.old.entries.items)) (places_of (name_cells names.new.entries.items)) by lender.old lender.new }
 {
-    if let Some(instance) = take_name(names, name, by, lender) {
-        unname(slots, instance);
+    if let Some(instance) = names.take(name, by, lender) {
+        slots.unname(instance);
     }
 }
 
 // Takes an instance out that has neither a name nor cells.
-fn tidy(slots: &mut Vec<(Index, Slot)>, instance: Index, lender: &mut Lender)
-    requires rises { IsTrue (is_sorted nat_cmp slots.old.items) }
-    requires empty { (s : ASlot) → find nat_cmp instance slots.old.items ≡ Some s → any_cells s.resource ≡ [] }
-    ensures slots { slots.new.items ≡ tidied instance slots.old.items }
+fn tidy(slots: &mut Slots, instance: Index, lender: &mut Lender)
+    requires { (s : ASlot) → find nat_cmp instance slots.old.entries.items ≡ Some s → any_cells s.resource ≡ [] }
+    ensures slots { slots.new.entries.items ≡ tidied instance slots.old.entries.items }
     ensures lender { Retires (λ j. 0) lender.old lender.new }
 {
-    if !is_named(slots, instance) {
-        take_empty(slots, instance, lender);
+    if !slots.is_named(instance) {
+        slots.take_empty(instance, lender);
     }
 }
 
 // Takes a name out, and all cells of the instance that is told with it.
 fn delete(
-    names: &mut Vec<(Key, Named)>,
-    slots: &mut Vec<(Index, Slot)>,
+    names: &mut Names,
+    slots: &mut Slots,
     name: &Key,
     instance: Index,
     commit: Commit,
@@ -109,80 +96,71 @@ fn delete(
     lender: &mut Lender,
 )
     requires told { effect.now ≡ Delete name.now instance }
-    requires whole { IsWhole names.old.items slots.old.items }
-    requires ready { ResourceIsReady slots.old.items instance effect.now commit }
-    requires held { AreOut (places_of (whole_cells names.old.items slots.old.items)) lender.old }
-    requires new { places_of (whole_cells names.old.items slots.old.items) commit ≡ 0 }
+    requires whole { IsWhole names.old.entries.items slots.old.entries.items }
+    requires ready { ResourceIsReady slots.old.entries.items instance effect.now commit }
+    requires held { AreOut (places_of (whole_cells names.old.entries.items slots.old.entries.items)) lender.old }
+    requires new { places_of (whole_cells names.old.entries.items slots.old.entries.items) commit ≡ 0 }
     requires lent { tokens lender.old commit ≡ 1 }
-    ensures { IsApplied commit effect.now names.old.items slots.old.items names.new.items slots.new.items lender.old lender.new }
+    ensures { IsApplied commit effect.now names.old.entries.items slots.old.entries.items names.new.entries.items slots.new.entries.items lender.old lender.new }
 {
     let by = commit.index();
     drop_name(names, slots, name, by, lender);
-    apply_in(slots, instance, commit, effect, lender);
+    slots.apply(instance, commit, effect, lender);
     tidy(slots, instance, lender);
 }
 
 // Puts a new name and its instance into the room that was made for them.
-fn add(
-    names: &mut Vec<(Key, Named)>,
-    slots: &mut Vec<(Index, Slot)>,
-    copies: (Key, Key),
-    kind: Kind,
-    commit: Commit,
-)
-    requires names { IsTrue (is_sorted text_cmp names.old.items) }
-    requires slots { IsTrue (is_sorted nat_cmp slots.old.items) }
-    requires names_room { vec_len names.old < vec_capacity names.old }
-    requires slots_room { vec_len slots.old < vec_capacity slots.old }
-    requires absent { find text_cmp copies.0 names.old.items ≡ None }
-    requires free { find nat_cmp commit slots.old.items ≡ None }
-    ensures { HasAdded copies.0 copies.1 kind commit names.old.items slots.old.items names.new.items slots.new.items }
+fn add(names: &mut Names, slots: &mut Slots, copies: (Key, Key), kind: Kind, commit: Commit)
+    requires names_room { vec_len names.old.entries < vec_capacity names.old.entries }
+    requires slots_room { vec_len slots.old.entries < vec_capacity slots.old.entries }
+    requires absent { find text_cmp copies.0 names.old.entries.items ≡ None }
+    requires free { find nat_cmp commit slots.old.entries.items ≡ None }
+    ensures { HasAdded copies.0 copies.1 kind commit names.old.entries.items slots.old.entries.items names.new.entries.items slots.new.entries.items }
 {
     let (own, of_slot) = copies;
     let index = commit.index();
     let slot = Slot {
         name: Some(of_slot),
-        resource: AnyResource::new(*slots.allocator(), kind, index),
+        resource: AnyResource::new(*slots.entries.allocator(), kind, index),
     };
-    add_slot(slots, index, slot);
-    add_name(names, own, Named { commit, kind });
+    slots.add(index, slot);
+    names.add(own, Named { commit, kind });
 }
 
 // Creates a name with its instance, or closes the commit where the name is there.
 fn create(
-    names: &mut Vec<(Key, Named)>,
-    slots: &mut Vec<(Index, Slot)>,
+    names: &mut Names,
+    slots: &mut Slots,
     copies: &mut Option<(Key, Key)>,
     name: &Key,
     kind: Kind,
     commit: Commit,
     lender: &mut Lender,
 )
-    requires whole { IsWhole names.old.items slots.old.items }
+    requires whole { IsWhole names.old.entries.items slots.old.entries.items }
     requires copies { copies.old ≡ Some (name.now, name.now) }
-    requires names_room { vec_len names.old < vec_capacity names.old }
-    requires slots_room { vec_len slots.old < vec_capacity slots.old }
-    requires anew { list_any (is_in_instance commit) (whole_cells names.old.items slots.old.items) ≡ false }
-    requires held { AreOut (places_of (whole_cells names.old.items slots.old.items)) lender.old }
-    requires new { places_of (whole_cells names.old.items slots.old.items) commit ≡ 0 }
+    requires names_room { vec_len names.old.entries < vec_capacity names.old.entries }
+    requires slots_room { vec_len slots.old.entries < vec_capacity slots.old.entries }
+    requires anew { list_any (is_in_instance commit) (whole_cells names.old.entries.items slots.old.entries.items) ≡ false }
+    requires held { AreOut (places_of (whole_cells names.old.entries.items slots.old.entries.items)) lender.old }
+    requires new { places_of (whole_cells names.old.entries.items slots.old.entries.items) commit ≡ 0 }
     requires lent { tokens lender.old commit ≡ 1 }
-    ensures { IsApplied commit (Create name.now kind) names.old.items slots.old.items names.new.items slots.new.items lender.old lender.new }
+    ensures { IsApplied commit (Create name.now kind) names.old.entries.items slots.old.entries.items names.new.entries.items slots.new.entries.items lender.old lender.new }
 {
-    if find_name(names, name).is_some() {
+    if names.get(name).is_some() {
         close_own(commit, lender);
         return;
     }
-    take_empty(slots, commit.index(), lender);
+    slots.take_empty(commit.index(), lender);
     add(names, slots, copies.take().unwrap(), kind, commit);
 }
 
 /// Named resources: a `Machine` over all kinds.
 ///
 /// Contracts see its names and instances, the room for more of them, and the copies of a name that the next `Create` takes.
-/// Finding a name or an instance takes time logarithmic in their number.
 pub struct Catalog {
-    names: Vec<(Key, Named)>,
-    slots: Vec<(Index, Slot)>,
+    names: Names,
+    slots: Slots,
     copies: Option<(Key, Key)>,
 }
 
@@ -205,25 +183,20 @@ impl Catalog {
         ensures slots { result.slots ≡ [] }
     {
         Catalog {
-            names: Vec::new(alloc),
-            slots: Vec::new(alloc),
+            names: Names::new(alloc),
+            slots: Slots::new(alloc),
             copies: None,
         }
     }
 }
 
 // Decides an operation on a name that isn't there.
-fn resolve_new(
-    names: &[(Key, Named)],
-    name: &Key,
-    op: &Op,
-    index: Index,
-) -> Result<Decision, Refuse>
-    ensures { (cells : Cells) → names_in cells ≡ length names.now → Resolves (choice_new cells name.now op.now index) result }
+fn resolve_new(names: &Names, name: &Key, op: &Op, index: Index) -> Result<Decision, Refuse>
+    ensures { (cells : Cells) → names_in cells ≡ length names.now.entries.items → Resolves (choice_new cells name.now op.now index) result }
 {
     match op {
         Op::Create { kind } => {
-            if names.len() >= NAME_LIMIT {
+            if names.entries.len() >= NAME_LIMIT {
                 return Err(Refuse::Names);
             }
             Ok(Decision {
@@ -240,7 +213,7 @@ fn resolve_new(
 
 // Decides an operation on a name that stands with this instance and kind.
 fn resolve_there(
-    slots: &[(Index, Slot)],
+    slots: &Slots,
     alloc: Global,
     name: &Key,
     stands: (Index, Kind),
@@ -248,9 +221,8 @@ fn resolve_there(
     session: Index,
     index: Index,
 ) -> Result<Decision, Refuse>
-    requires rises { IsTrue (is_sorted nat_cmp slots.now) }
-    requires there { is_some (find nat_cmp stands.0 slots.now) ≡ true }
-    ensures { (cells : Cells) (s : ASlot) → find nat_cmp stands.0 slots.now ≡ Some s → IsShownAs stands.0 stands.1 s cells → Resolves (choice_there cells name.now stands.0 stands.1 op.now session index) result }
+    requires { is_some (find nat_cmp stands.0 slots.now.entries.items) ≡ true }
+    ensures { (cells : Cells) (s : ASlot) → find nat_cmp stands.0 slots.now.entries.items ≡ Some s → IsShownAs stands.0 stands.1 s cells → Resolves (choice_there cells name.now stands.0 stands.1 op.now session index) result }
 {
     let (instance, kind) = stands;
     match op {
@@ -271,7 +243,10 @@ fn resolve_there(
             },
             reply: Reply::None,
         }),
-        _ => resolve_in(slots, instance, alloc, op, session, index),
+        _ => match slots.get(instance) {
+            Some(slot) => slot.resource.resolve(alloc, op, session, index),
+            None => unreachable!(),
+        },
     }
 }
 
@@ -295,34 +270,34 @@ fn instance_of(effect: &Effect) -> Option<Index>
 
 // Appends all names and cells. After an error the list begins as before.
 fn list_all(
-    names: &[(Key, Named)],
-    slots: &[(Index, Slot)],
+    names: &Names,
+    slots: &Slots,
     alloc: Global,
     out: &mut Vec<Place>,
 ) -> Result<(), NoMemory>
-    ensures ok { OnOk result (out.new.items ≡ out.old.items ++ listed (whole_cells names.now slots.now)) }
+    ensures ok { OnOk result (out.new.items ≡ out.old.items ++ listed (whole_cells names.now.entries.items slots.now.entries.items)) }
     ensures begins { take (length out.old.items) out.new.items ≡ out.old.items }
 {
-    list_names(names, out)?;
-    list_slots(slots, alloc, out)
+    names.list(out)?;
+    slots.list(alloc, out)
 }
 
 // Makes room for a new name, and copies it twice.
 fn prepare_new(
-    names: &mut Vec<(Key, Named)>,
-    slots: &mut Vec<(Index, Slot)>,
+    names: &mut Names,
+    slots: &mut Slots,
     copies: &mut Option<(Key, Key)>,
     name: &Key,
     kind: Kind,
 ) -> Result<(), NoMemory>
-    ensures names { names.new.items ≡ names.old.items }
-    ensures slots { slots.new.items ≡ slots.old.items }
+    ensures names { names.new.entries.items ≡ names.old.entries.items }
+    ensures slots { slots.new.entries.items ≡ slots.old.entries.items }
     ensures copies { OnOk result (copies.new ≡ Some (name.now, name.now)) }
-    ensures names_room { OnOk result (1 ≤ vec_capacity names.new - vec_len names.new) }
-    ensures slots_room { OnOk result (1 ≤ vec_capacity slots.new - vec_len slots.new) }
+    ensures names_room { OnOk result (1 ≤ vec_capacity names.new.entries - vec_len names.new.entries) }
+    ensures slots_room { OnOk result (1 ≤ vec_capacity slots.new.entries - vec_len slots.new.entries) }
 {
-    names.reserve(1)?;
-    slots.reserve(1)?;
+    names.entries.reserve(1)?;
+    slots.entries.reserve(1)?;
     *copies = Some((name.copy()?, name.copy()?));
     Ok(())
 }
@@ -350,15 +325,21 @@ impl Machine for Catalog {
         session: Index,
         index: Index,
     ) -> Result<Decision, Refuse> {
-        match find_name(&self.names, name) {
-            Some(stands) => resolve_there(&self.slots, alloc, name, stands, op, session, index),
+        match self.names.get(name) {
+            Some(named) => {
+                let stands = (named.commit.index(), named.kind);
+                resolve_there(&self.slots, alloc, name, stands, op, session, index)
+            }
             None => resolve_new(&self.names, name, op, index),
         }
     }
 
     fn look(&self, alloc: Global, name: &Key, op: &Op) -> Result<Reply, Refuse> {
-        match find_name(&self.names, name) {
-            Some((instance, _)) => look_in(&self.slots, instance, alloc, op),
+        match self.names.get(name) {
+            Some(named) => match self.slots.get(named.commit.index()) {
+                Some(slot) => slot.resource.look(alloc, op),
+                None => unreachable!(),
+            },
             None => Err(Refuse::NoName),
         }
     }
@@ -374,13 +355,13 @@ impl Machine for Catalog {
 
     fn tells(&self, alloc: Global, effect: &Effect, index: Index) -> Result<Told, NoMemory> {
         match instance_of(effect) {
-            Some(instance) => tells_in(&self.slots, instance, alloc, effect, index),
+            Some(instance) => self.slots.tells(instance, alloc, effect, index),
             None => Ok(Told::new(alloc)),
         }
     }
 
     fn tells_close(&self, alloc: Global, owner: Index) -> Result<Told, NoMemory> {
-        tells_close(&self.slots, alloc, owner)
+        self.slots.tells_close(alloc, owner)
     }
 
     fn prepare(&mut self, alloc: Global, effect: &Effect, index: Index) -> Result<(), NoMemory> {
@@ -393,19 +374,13 @@ impl Machine for Catalog {
                 *kind,
             ),
             Effect::Delete { instance, .. } => {
-                prepare_in(&mut self.slots, *instance, alloc, effect, index)
+                self.slots.prepare(*instance, alloc, effect, index)
             }
-            Effect::Put { instance, .. } => {
-                prepare_in(&mut self.slots, *instance, alloc, effect, index)
-            }
-            Effect::Drop { instance, .. } => {
-                prepare_in(&mut self.slots, *instance, alloc, effect, index)
-            }
-            Effect::Wipe { instance } => {
-                prepare_in(&mut self.slots, *instance, alloc, effect, index)
-            }
+            Effect::Put { instance, .. } => { self.slots.prepare(*instance, alloc, effect, index) }
+            Effect::Drop { instance, .. } => { self.slots.prepare(*instance, alloc, effect, index) }
+            Effect::Wipe { instance } => { self.slots.prepare(*instance, alloc, effect, index) }
             Effect::WipeKey { instance, .. } => {
-                prepare_in(&mut self.slots, *instance, alloc, effect, index)
+                self.slots.prepare(*instance, alloc, effect, index)
             }
             Effect::Nothing => Ok(()),
             Effect::Tell { .. } => Ok(()),
@@ -424,7 +399,7 @@ impl Machine for Catalog {
     }
 
     fn forget_owner(&mut self, owner: Index, by: Index, lender: &mut Lender) {
-        forget_in_all(&mut self.slots, owner, by, lender);
+        self.slots.forget_owner(owner, by, lender);
     }
 
     fn end(self, lender: &mut Lender) {
@@ -433,27 +408,27 @@ impl Machine for Catalog {
             slots,
             copies: _,
         } = self;
-        end_names(names, lender);
-        end_slots(slots, lender);
+        names.end(lender);
+        slots.end(lender);
     }
 }
 
 // Applies an effect, whatever it is on.
 fn apply_to(
-    names: &mut Vec<(Key, Named)>,
-    slots: &mut Vec<(Index, Slot)>,
+    names: &mut Names,
+    slots: &mut Slots,
     copies: &mut Option<(Key, Key)>,
     commit: Commit,
     effect: &Effect,
     lender: &mut Lender,
 )
-    requires whole { IsWhole names.old.items slots.old.items }
-    requires anew { CreatesAnew (whole_cells names.old.items slots.old.items) commit effect.now }
-    requires ready { CatalogIsReady (record { names = names.old.items; slots = slots.old.items; names_room = vec_capacity names.old - vec_len names.old; slots_room = vec_capacity slots.old - vec_len slots.old; copies = copies.old }) effect.now commit }
-    requires held { AreOut (places_of (whole_cells names.old.items slots.old.items)) lender.old }
-    requires new { places_of (whole_cells names.old.items slots.old.items) commit ≡ 0 }
+    requires whole { IsWhole names.old.entries.items slots.old.entries.items }
+    requires anew { CreatesAnew (whole_cells names.old.entries.items slots.old.entries.items) commit effect.now }
+    requires ready { CatalogIsReady (record { names = names.old.entries.items; slots = slots.old.entries.items; names_room = vec_capacity names.old.entries - vec_len names.old.entries; slots_room = vec_capacity slots.old.entries - vec_len slots.old.entries; copies = copies.old }) effect.now commit }
+    requires held { AreOut (places_of (whole_cells names.old.entries.items slots.old.entries.items)) lender.old }
+    requires new { places_of (whole_cells names.old.entries.items slots.old.entries.items) commit ≡ 0 }
     requires lent { tokens lender.old commit ≡ 1 }
-    ensures { IsApplied commit effect.now names.old.items slots.old.items names.new.items slots.new.items lender.old lender.new }
+    ensures { IsApplied commit effect.now names.old.entries.items slots.old.entries.items names.new.entries.items slots.new.entries.items lender.old lender.new }
 {
     match effect {
         Effect::Create { name, kind } => create(names, slots, copies, name, *kind, commit, lender),

@@ -1,5 +1,5 @@
-// The instances of a catalog, rising.
-ghost use Rattle.std.specs.Prelude.{◌≡◌, ℕ, ◌+◌, ◌<◌, ◌++◌, [], true, false, Some, None, is_some, IsTrue, IfOk, OnOk, length, take};
+// The instances of a catalog.
+ghost use Rattle.std.specs.Prelude.{◌≡◌, ℕ, ◌+◌, ◌<◌, ◌++◌, [], false, Some, None, IsTrue, IfOk, OnOk, length, option_copied, take};
 ghost use Rattle.std.specs.Vec.{vec_len, vec_capacity};
 ghost use Rattle.std.specs.FinMap.Entries.{find, put, is_sorted};
 ghost use Rattle.std.specs.Ordering.{nat_cmp};
@@ -7,19 +7,16 @@ ghost use Rattle.host_types.specs.Cells.{places_of, is_create};
 ghost use Rattle.commit_lending.specs.Lent.{tokens, one_of};
 ghost use Rattle.machine.specs.Listing.{listed};
 ghost use Rattle.machine.specs.Release.{AreOut, Releases, Retires};
-ghost use Rattle.log_model.specs.kinds.Reading.{kind_decision};
-ghost use Rattle.resource_catalog.specs.Kinds.{any_kind, any_instance, any_cells};
+ghost use Rattle.resource_catalog.specs.Kinds.{any_cells};
 ghost use Rattle.resource_catalog.specs.Parts.{slot_cells, ResourceIsReady};
 ghost use Rattle.resource_catalog.specs.declared.slots.Slot.{Slot as ASlot};
 ghost use Rattle.resource_catalog.specs.Steps.{tells_by, without_slot, without_its_name, AppliedIn, KeptIn, Forgot, is_named_at, tells_at, closes_by, closes_in};
-ghost use Rattle.host_types.specs.Decision.{is_looking};
-ghost use Rattle.machine.specs.Answers.{Resolves, Looks};
 
 use crate::kinds::AnyResource;
 use crate::sorted::place_of;
 use commit_lending::{Commit, Lender};
-use host_types::{Effect, Index, Key, NoMemory, Op, Reply};
-use machine::{Decision, Place, Refuse, Told};
+use host_types::{Effect, Index, Key, NoMemory};
+use machine::{Place, Told};
 use std::alloc::Global;
 
 /// One instance: its resource, and the name that it stands under. Where its name was deleted under another instance, which no log
@@ -29,230 +26,203 @@ pub struct Slot {
     pub resource: AnyResource,
 }
 
-/// Puts an instance that isn't there, into room that was made.
-pub(crate) fn add_slot(slots: &mut Vec<(Index, Slot)>, instance: Index, slot: Slot)
-    requires rises { IsTrue (is_sorted nat_cmp slots.old.items) }
-    requires room { vec_len slots.old < vec_capacity slots.old }
-    requires absent { find nat_cmp instance slots.old.items ≡ None }
-    ensures { slots.new.items ≡ put nat_cmp instance slot slots.old.items }
-{
-    match place_of(slots, &instance) {
-        Ok(_) => unreachable!(),
-        Err(at) => match slots.insert(at, (instance, slot)) {
-            Ok(()) => {}
-            Err(_refused) => unreachable!(),
-        },
-    }
-}
-
-/// Takes its name from an instance, where that is there.
-pub(crate) fn unname(slots: &mut Vec<(Index, Slot)>, instance: Index)
-    requires { IsTrue (is_sorted nat_cmp slots.old.items) }
-    ensures { slots.new.items ≡ without_its_name instance slots.old.items }
-{
-    if let Ok(at) = place_of(slots, &instance) {
-        slots[at].1.name = None;
-    }
-}
-
-/// Applies an effect to the resource of an instance, as the entry of the commit. Where there is no such instance, the commit is
-/// closed.
-pub(crate) fn apply_in(
-    slots: &mut Vec<(Index, Slot)>,
-    instance: Index,
-    commit: Commit,
-    effect: &Effect,
-    lender: &mut Lender,
-)
-    requires rises { IsTrue (is_sorted nat_cmp slots.old.items) }
-    requires no_create { is_create effect.now ≡ false }
-    requires ready { ResourceIsReady slots.old.items instance effect.now commit }
-    requires held { AreOut (places_of (slot_cells slots.old.items)) lender.old }
-    requires new { places_of (slot_cells slots.old.items) commit ≡ 0 }
-    requires lent { tokens lender.old commit ≡ 1 }
-    ensures slots { AppliedIn commit effect.now instance slots.old.items slots.new.items }
-    ensures released { Releases (λ j. places_of (slot_cells slots.old.items) j + one_of commit j) (places_of (slot_cells slots.new.items)) commit lender.old lender.new }
-{
-    match place_of(slots, &instance) {
-        Ok(at) => slots[at].1.resource.apply(commit, effect, lender),
-        Err(_) => {
-            let index = commit.index();
-            lender.close(commit, index);
+impl Slot {
+    // The events that an effect makes, where the instance has a name.
+    fn tells(&self, alloc: Global, effect: &Effect, index: Index) -> Result<Told, NoMemory>
+        ensures { IfOk result (λ told. told ≡ tells_by self.now.resource self.now.name effect.now index) }
+    {
+        match &self.name {
+            Some(name) => self.resource.tells(alloc, name, effect, index),
+            None => Ok(Told::new(alloc)),
         }
     }
-}
 
-/// Takes out an instance that has no cells, where it is there.
-pub(crate) fn take_empty(slots: &mut Vec<(Index, Slot)>, instance: Index, lender: &mut Lender)
-    requires rises { IsTrue (is_sorted nat_cmp slots.old.items) }
-    requires empty { (s : ASlot) → find nat_cmp instance slots.old.items ≡ Some s → any_cells s.resource ≡ [] }
-    ensures slots { slots.new.items ≡ without_slot instance slots.old.items }
-    ensures room { vec_len slots.old < vec_capacity slots.old → vec_len slots.new < vec_capacity slots.new }
-    ensures lender { Retires (λ j. 0) lender.old lender.new }
-{
-    if let Ok(at) = place_of(slots, &instance) {
-        let (_, Slot { name: _, resource }) = slots.remove(at);
-        resource.end(lender);
+    // Appends the events that the end of a session makes.
+    fn tell_close(&self, told: &mut Told, alloc: Global, owner: Index) -> Result<(), NoMemory>
+        ensures { OnOk result (told.new ≡ told.old ++ closes_by self.now.resource self.now.name owner) }
+    {
+        if let Some(name) = &self.name {
+            let more = self.resource.tells_close(alloc, name, owner)?;
+            told.append(more)?;
+        }
+        Ok(())
     }
 }
 
-/// Whether an instance is there and has a name.
-pub(crate) fn is_named(slots: &[(Index, Slot)], instance: Index) -> bool
-    requires { IsTrue (is_sorted nat_cmp slots.now) }
-    ensures { result ≡ is_named_at (find nat_cmp instance slots.now) }
-{
-    match place_of(slots, &instance) {
-        Ok(at) => slots[at].1.name.is_some(),
-        Err(_) => false,
-    }
+/// The instances, by rising index. Finding one takes time logarithmic in their number.
+pub(crate) struct Slots {
+    pub(crate) entries: Vec<(Index, Slot)>,
+    pub ghost rises: { IsTrue (is_sorted nat_cmp entries.items) },
 }
 
-/// Decides an operation on an instance that is there.
-pub(crate) fn resolve_in(
-    slots: &[(Index, Slot)],
-    instance: Index,
-    alloc: Global,
-    op: &Op,
-    session: Index,
-    index: Index,
-) -> Result<Decision, Refuse>
-    requires rises { IsTrue (is_sorted nat_cmp slots.now) }
-    requires there { is_some (find nat_cmp instance slots.now) ≡ true }
-    ensures { (s : ASlot) → find nat_cmp instance slots.now ≡ Some s → Resolves ((kind_decision (any_kind s.resource)).resolve (any_instance s.resource) (any_cells s.resource) op.now session index) result }
-{
-    match place_of(slots, &instance) {
-        Ok(at) => slots[at].1.resource.resolve(alloc, op, session, index),
-        Err(_) => unreachable!(),
+impl Slots {
+    /// No instance. It takes no memory.
+    pub(crate) fn new(alloc: Global) -> Slots
+        ensures { result.entries.items ≡ [] }
+    {
+        Slots {
+            entries: Vec::new(alloc),
+        }
     }
-}
 
-/// What an operation that looks shows on an instance that is there.
-pub(crate) fn look_in(
-    slots: &[(Index, Slot)],
-    instance: Index,
-    alloc: Global,
-    op: &Op,
-) -> Result<Reply, Refuse>
-    requires rises { IsTrue (is_sorted nat_cmp slots.now) }
-    requires there { is_some (find nat_cmp instance slots.now) ≡ true }
-    requires looking { is_looking op.now ≡ true }
-    ensures { (s : ASlot) → find nat_cmp instance slots.now ≡ Some s → Looks ((kind_decision (any_kind s.resource)).look (any_instance s.resource) (any_cells s.resource) op.now) result }
-{
-    match place_of(slots, &instance) {
-        Ok(at) => slots[at].1.resource.look(alloc, op),
-        Err(_) => unreachable!(),
+    /// An instance.
+    pub(crate) fn get(&self, instance: Index) -> Option<&Slot>
+        ensures { option_copied result ≡ find nat_cmp instance self.now.entries.items }
+    {
+        match place_of(&self.entries, &instance) {
+            Ok(at) => Some(&self.entries[at].1),
+            Err(_) => None,
+        }
     }
-}
 
-/// Makes room in an instance for one later effect. The cells stay, whatever it answers.
-pub(crate) fn prepare_in(
-    slots: &mut Vec<(Index, Slot)>,
-    instance: Index,
-    alloc: Global,
-    effect: &Effect,
-    index: Index,
-) -> Result<(), NoMemory>
-    requires { IsTrue (is_sorted nat_cmp slots.old.items) }
-    ensures ready { OnOk result (ResourceIsReady slots.new.items instance effect.now index) }
-    ensures slots { KeptIn instance slots.old.items slots.new.items }
-{
-    match place_of(slots, &instance) {
-        Ok(at) => slots[at].1.resource.prepare(alloc, effect, index),
-        Err(_) => Ok(()),
+    /// Whether an instance is there and has a name.
+    pub(crate) fn is_named(&self, instance: Index) -> bool
+        ensures { result ≡ is_named_at (find nat_cmp instance self.now.entries.items) }
+    {
+        match self.get(instance) {
+            Some(slot) => slot.name.is_some(),
+            None => false,
+        }
     }
-}
 
-// The events that an effect makes on one instance, where that has a name.
-fn tells_on(slot: &Slot, alloc: Global, effect: &Effect, index: Index) -> Result<Told, NoMemory>
-    ensures { IfOk result (λ told. told ≡ tells_by slot.now.resource slot.now.name effect.now index) }
-{
-    match &slot.name {
-        Some(name) => slot.resource.tells(alloc, name, effect, index),
-        None => Ok(Told::new(alloc)),
+    /// Puts an instance that isn't there, into room that was made.
+    pub(crate) fn add(&mut self, instance: Index, slot: Slot)
+        requires room { vec_len self.old.entries < vec_capacity self.old.entries }
+        requires absent { find nat_cmp instance self.old.entries.items ≡ None }
+        ensures { self.new.entries.items ≡ put nat_cmp instance slot self.old.entries.items }
+    {
+        match place_of(&self.entries, &instance) {
+            Ok(_) => unreachable!(),
+            Err(at) => match self.entries.insert(at, (instance, slot)) {
+                Ok(()) => {}
+                Err(_refused) => unreachable!(),
+            },
+        }
     }
-}
 
-/// The events that an effect makes on an instance, where that is there and has a name.
-pub(crate) fn tells_in(
-    slots: &[(Index, Slot)],
-    instance: Index,
-    alloc: Global,
-    effect: &Effect,
-    index: Index,
-) -> Result<Told, NoMemory>
-    requires { IsTrue (is_sorted nat_cmp slots.now) }
-    ensures { IfOk result (λ told. told ≡ tells_at (find nat_cmp instance slots.now) effect.now index) }
-{
-    match place_of(slots, &instance) {
-        Ok(at) => tells_on(&slots[at].1, alloc, effect, index),
-        Err(_) => Ok(Told::new(alloc)),
+    /// Takes its name from an instance, where that is there.
+    pub(crate) fn unname(&mut self, instance: Index)
+        ensures { self.new.entries.items ≡ without_its_name instance self.old.entries.items }
+    {
+        if let Ok(at) = place_of(&self.entries, &instance) {
+            self.entries[at].1.name = None;
+        }
     }
-}
 
-// Appends the events that the end of a session makes on one instance.
-fn tell_close(told: &mut Told, slot: &Slot, alloc: Global, owner: Index) -> Result<(), NoMemory>
-    ensures { OnOk result (told.new ≡ told.old ++ closes_by slot.now.resource slot.now.name owner) }
-{
-    if let Some(name) = &slot.name {
-        let more = slot.resource.tells_close(alloc, name, owner)?;
-        told.append(more)?;
+    /// Makes room in an instance for one later effect. The cells stay, whatever it answers.
+    pub(crate) fn prepare(
+        &mut self,
+        instance: Index,
+        alloc: Global,
+        effect: &Effect,
+        index: Index,
+    ) -> Result<(), NoMemory>
+        ensures ready { OnOk result (ResourceIsReady self.new.entries.items instance effect.now index) }
+        ensures slots { KeptIn instance self.old.entries.items self.new.entries.items }
+    {
+        match place_of(&self.entries, &instance) {
+            Ok(at) => self.entries[at].1.resource.prepare(alloc, effect, index),
+            Err(_) => Ok(()),
+        }
     }
-    Ok(())
-}
 
-/// The events that the end of a session makes, by rising instance.
-pub(crate) fn tells_close(
-    slots: &[(Index, Slot)],
-    alloc: Global,
-    owner: Index,
-) -> Result<Told, NoMemory>
-    ensures { IfOk result (λ told. told ≡ closes_in owner slots.now) }
-{
-    let mut told = Told::new(alloc);
-    for (_, slot) in slots {
-        tell_close(&mut told, slot, alloc, owner)?;
+    /// Applies an effect to the resource of an instance, as the entry of the commit. Where there is no such instance, the commit is
+    /// closed.
+    pub(crate) fn apply(
+        &mut self,
+        instance: Index,
+        commit: Commit,
+        effect: &Effect,
+        lender: &mut Lender,
+    )
+        requires no_create { is_create effect.now ≡ false }
+        requires ready { ResourceIsReady self.old.entries.items instance effect.now commit }
+        requires held { AreOut (places_of (slot_cells self.old.entries.items)) lender.old }
+        requires new { places_of (slot_cells self.old.entries.items) commit ≡ 0 }
+        requires lent { tokens lender.old commit ≡ 1 }
+        ensures slots { AppliedIn commit effect.now instance self.old.entries.items self.new.entries.items }
+        ensures released { Releases (λ j. places_of (slot_cells self.old.entries.items) j + one_of commit j) (places_of (slot_cells self.new.entries.items)) commit lender.old lender.new }
+    {
+        match place_of(&self.entries, &instance) {
+            Ok(at) => self.entries[at].1.resource.apply(commit, effect, lender),
+            Err(_) => {
+                let index = commit.index();
+                lender.close(commit, index);
+            }
+        }
     }
-    Ok(told)
-}
 
-/// Appends the cells of each instance. After an error the list begins as before.
-pub(crate) fn list_slots(
-    slots: &[(Index, Slot)],
-    alloc: Global,
-    out: &mut Vec<Place>,
-) -> Result<(), NoMemory>
-    ensures ok { OnOk result (out.new.items ≡ out.old.items ++ listed (slot_cells slots.now)) }
-    ensures begins { take (length out.old.items) out.new.items ≡ out.old.items }
-{
-    for (_, slot) in slots {
-        slot.resource.list(alloc, out)?;
+    /// Takes out an instance that has no cells, where it is there.
+    pub(crate) fn take_empty(&mut self, instance: Index, lender: &mut Lender)
+        requires { (s : ASlot) → find nat_cmp instance self.old.entries.items ≡ Some s → any_cells s.resource ≡ [] }
+        ensures slots { self.new.entries.items ≡ without_slot instance self.old.entries.items }
+        ensures room { vec_len self.old.entries < vec_capacity self.old.entries → vec_len self.new.entries < vec_capacity self.new.entries }
+        ensures lender { Retires (λ j. 0) lender.old lender.new }
+    {
+        if let Ok(at) = place_of(&self.entries, &instance) {
+            let (_, Slot { name: _, resource }) = self.entries.remove(at);
+            resource.end(lender);
+        }
     }
-    Ok(())
-}
 
-/// Drops the cells of a session in each instance, for the entry with the index `by`.
-pub(crate) fn forget_in_all(
-    slots: &mut Vec<(Index, Slot)>,
-    owner: Index,
-    by: Index,
-    lender: &mut Lender,
-)
-    requires { AreOut (places_of (slot_cells slots.old.items)) lender.old }
-    ensures slots { Forgot owner slots.old.items slots.new.items }
-    ensures released { Releases (places_of (slot_cells slots.old.items)) (places_of (slot_cells slots.new.items)) by lender.old lender.new }
-{
-    for at in 0..slots.len() {
-        slots[at].1.resource.forget_owner(owner, by, lender);
+    /// The events that an effect makes on an instance, where that is there and has a name.
+    pub(crate) fn tells(
+        &self,
+        instance: Index,
+        alloc: Global,
+        effect: &Effect,
+        index: Index,
+    ) -> Result<Told, NoMemory>
+        ensures { IfOk result (λ told. told ≡ tells_at (find nat_cmp instance self.now.entries.items) effect.now index) }
+    {
+        match self.get(instance) {
+            Some(slot) => slot.tells(alloc, effect, index),
+            None => Ok(Told::new(alloc)),
+        }
     }
-}
 
-/// Retires what all instances hold.
-pub(crate) fn end_slots(mut slots: Vec<(Index, Slot)>, lender: &mut Lender)
-    requires { AreOut (places_of (slot_cells slots.items)) lender.old }
-    ensures { Retires (places_of (slot_cells slots.items)) lender.old lender.new }
-{
-    while let Some((_, Slot { name: _, resource })) = slots.pop() {
-        resource.end(lender);
+    /// The events that the end of a session makes, by rising instance.
+    pub(crate) fn tells_close(&self, alloc: Global, owner: Index) -> Result<Told, NoMemory>
+        ensures { IfOk result (λ told. told ≡ closes_in owner self.now.entries.items) }
+    {
+        let mut told = Told::new(alloc);
+        for (_, slot) in &self.entries {
+            slot.tell_close(&mut told, alloc, owner)?;
+        }
+        Ok(told)
     }
-    slots.destroy_empty();
+
+    /// Appends the cells of each instance. After an error the list begins as before.
+    pub(crate) fn list(&self, alloc: Global, out: &mut Vec<Place>) -> Result<(), NoMemory>
+        ensures ok { OnOk result (out.new.items ≡ out.old.items ++ listed (slot_cells self.now.entries.items)) }
+        ensures begins { take (length out.old.items) out.new.items ≡ out.old.items }
+    {
+        for (_, slot) in &self.entries {
+            slot.resource.list(alloc, out)?;
+        }
+        Ok(())
+    }
+
+    /// Drops the cells of a session in each instance, for the entry with the index `by`.
+    pub(crate) fn forget_owner(&mut self, owner: Index, by: Index, lender: &mut Lender)
+        requires { AreOut (places_of (slot_cells self.old.entries.items)) lender.old }
+        ensures slots { Forgot owner self.old.entries.items self.new.entries.items }
+        ensures released { Releases (places_of (slot_cells self.old.entries.items)) (places_of (slot_cells self.new.entries.items)) by lender.old lender.new }
+    {
+        for at in 0..self.entries.len() {
+            self.entries[at].1.resource.forget_owner(owner, by, lender);
+        }
+    }
+
+    /// Retires what all instances hold.
+    pub(crate) fn end(self, lender: &mut Lender)
+        requires { AreOut (places_of (slot_cells self.entries.items)) lender.old }
+        ensures { Retires (places_of (slot_cells self.entries.items)) lender.old lender.new }
+    {
+        let Slots { mut entries } = self;
+        while let Some((_, Slot { name: _, resource })) = entries.pop() {
+            resource.end(lender);
+        }
+        entries.destroy_empty();
+    }
 }

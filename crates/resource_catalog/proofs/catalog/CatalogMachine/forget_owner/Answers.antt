@@ -4,20 +4,21 @@ use Rattle.machine.specs.Release.{AreOut, Releases}
 use Rattle.resource_catalog.specs.Parts.{Parts, cells_of, whole_cells}
 use Rattle.resource_catalog.proofs.Kept.{whole_forgot, cells_forgot}
 use Rattle.resource_catalog.proofs.Released.{slots_released}
+use Rattle.resource_catalog.proofs.Ordered.{in_order, is_whole}
 use Rattle.resource_catalog.proofs.catalog.CatalogMachine.forget_owner.Goals as goal
 
 pub invariant_of-self : goal.invariant_of-self
-invariant_of-self c = whole_forgot c.self.inside.names.items c.self.inside.slots.items c.forget_in_all.new.slots.items c.args.owner c.self.invariant c.forget_in_all.ensures.slots
+invariant_of-self c = is_whole _ _ (whole_forgot c.self.inside.names.entries.items c.self.inside.slots.entries.items c.forget_owner.new.self.entries.items c.args.owner (in_order c.self.inside.names c.self.inside.slots c.self.invariant) c.forget_owner.ensures.slots)
 
 pub returns-clause-cells : goal.returns-clause-cells
 returns-clause-cells c =
-    cells_forgot c.self.inside.names.items c.self.inside.slots.items c.forget_in_all.new.slots.items c.args.owner c.self.invariant c.forget_in_all.ensures.slots
+    cells_forgot c.self.inside.names.entries.items c.self.inside.slots.entries.items c.forget_owner.new.self.entries.items c.args.owner (in_order c.self.inside.names c.self.inside.slots c.self.invariant) c.forget_owner.ensures.slots
     ∙ ap (λ (v : Parts). without_owner c.args.owner (cells_of v)) c.self.view_is
 
 pub returns-clause-released : goal.returns-clause-released
 returns-clause-released c =
-    let names = c.self.inside.names.items in
-    let slots = c.self.inside.slots.items in
+    let names = c.self.inside.names.entries.items in
+    let slots = c.self.inside.slots.entries.items in
     let held = subst (λ (v : Parts). AreOut (places_of (cells_of v)) c.args.lender.now) (sym c.self.view_is) c.requires in
-    subst (λ (v : Parts). Releases (places_of (cells_of v)) (places_of (whole_cells names c.forget_in_all.new.slots.items)) c.args.by c.args.lender.now c.forget_in_all.new.lender) c.self.view_is
-    (slots_released names slots c.args.lender.now held c.args.by c.forget_in_all.new.slots.items c.forget_in_all.new.lender c.forget_in_all.ensures.released)
+    subst (λ (v : Parts). Releases (places_of (cells_of v)) (places_of (whole_cells names c.forget_owner.new.self.entries.items)) c.args.by c.args.lender.now c.forget_owner.new.lender) c.self.view_is
+    (slots_released names slots c.args.lender.now held c.args.by c.forget_owner.new.self.entries.items c.forget_owner.new.lender c.forget_owner.ensures.released)
