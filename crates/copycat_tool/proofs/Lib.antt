@@ -18,6 +18,7 @@ pub mod ReadingLemmas
 pub mod ReportLemmas
 pub mod RunLemmas
 pub mod Staying
+pub mod TakeAnswers
 pub mod TakingLemmas
 pub mod TurnLemmas
 pub mod Writing

@@ -64,7 +64,7 @@ confirmed_one_more id event (first ∷ events) ps = confirmed_one_more id event 
 -- ---- a host that stays where it is
 
 module _ {D : Type 0} (view : D → View) (files : Files) where
-  rest_as : (run run' : Run) (v w : View) → w ≡ v → run'.log ≡ run.log → run'.layout ≡ run.layout → IsAtRest files v run → IsAtRest files w run'
+  pub rest_as : (run run' : Run) (v w : View) → w ≡ v → run'.log ≡ run.log → run'.layout ≡ run.layout → IsAtRest files v run → IsAtRest files w run'
   rest_as run run' v w same log layout rest =
       let here : IsAtRest files v run' = record {
         sound = rest.sound;
@@ -76,7 +76,7 @@ module _ {D : Type 0} (view : D → View) (files : Files) where
       subst (λ (x : View). IsAtRest files x run') (sym same) here
 
   -- but for what its sessions have confirmed
-  at_confirmed : (old new : Seen D Parts) (run : Run) (session event : ℕ) (known : List ℕ) → IsAt view files old (changed files.size run (Confirms session known None)) → IsStill old new → IsConfirmed session event old new
+  pub at_confirmed : (old new : Seen D Parts) (run : Run) (session event : ℕ) (known : List ℕ) → IsAt view files old (changed files.size run (Confirms session known None)) → IsStill old new → IsConfirmed session event old new
       → IsAt view files new (changed files.size run (Confirms session (known ++ event ∷ []) None))
   at_confirmed old new run session event known at still confirmed = record {
     name_is = ap (λ p. p.name) still.parts ∙ at.name_is;

@@ -12,7 +12,7 @@ use Rattle.log_model.specs.plain.Step.{folded}
 use Rattle.log_model.specs.serving.Batches.{Batch, Served, Taken, Nothing_new, Takes, Misses, batches, serve, take_batch}
 use Rattle.log_model.specs.serving.Serving.{IsOneOf}
 use Rattle.session_table.specs.Asked.{batch_at}
-use Rattle.session_table.specs.Table.{beside_changed, beside_confirmed, confirmed_of}
+use Rattle.session_table.specs.Table.{Table, beside_changed, beside_confirmed, confirmed_of}
 use Rattle.host_core.specs.Seen.{hosted}
 use Rattle.host_recovery.specs.Seen.{Seen}
 use Rattle.resource_catalog.specs.Parts.{Parts, cells_of}
@@ -60,6 +60,11 @@ IsNext nexts.Nothing session new run last last' known served = served ≡ record
 IsNext nexts.Taken session new run last last' known served =
     (b : Batch) × (served ≡ record { confirmed = known ++ b.index ∷ []; turn = Takes b }) × (batch_at session new.core.sessions ≡ Some b) × (last' ≡ b.index) × (take_batch last b ≡ Taken) × IsOneOf b (batches run.log session)
 IsNext (nexts.Missed at after) session new run last last' known served = (b : Batch) × (served ≡ record { confirmed = known; turn = Misses b }) × (at ≡ last) × (after ≡ b.previous)
+
+-- a batch that was taken is still the one that is served
+abbrev pub HasTaken : Next → ℕ → Table → ℕ → Type 0
+HasTaken nexts.Taken session t last = (b : Batch) × (batch_at session t ≡ Some b) × (b.index ≡ last)
+HasTaken _ session t last = Unit {0}
 
 pub record HasNext {D : Type 0} (view : D → View) (files : Files) (session : ℕ) (old new : Seen D Parts) (run : Run) (last last' : ℕ) (next : Next) : Type 0 where
   pub opened : Session

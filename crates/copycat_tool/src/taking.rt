@@ -1,5 +1,5 @@
 // The client of a session takes what the session is served.
-ghost use Rattle.std.specs.Prelude.{◌≡◌, ◌≤◌, ◌∷◌, [], IsTrue, OnOk, Some, false};
+ghost use Rattle.std.specs.Prelude.{◌≡◌, ◌≤◌, ◌∷◌, [], IsTrue, IfOk, OnOk, Some, false};
 ghost use Rattle.log_model.specs.serving.Batches.{Batch as ABatch};
 ghost use Rattle.event_batches.specs.Kept.{as_batch};
 ghost use Rattle.session_table.specs.Asked.{batch_at};
@@ -7,7 +7,7 @@ ghost use Rattle.session_table.specs.Table.{IsOpen};
 ghost use Rattle.copycat_tool.specs.Report.{Run, after, take_answer};
 ghost use Rattle.copycat_tool.specs.Runs.{Files};
 ghost use Rattle.copycat_tool.specs.Standing.{IsAt};
-ghost use Rattle.copycat_tool.specs.Taking.{ArePut, Comes, HasClients, IsConfirmed, IsStill, Keeps, event_lines};
+ghost use Rattle.copycat_tool.specs.Taking.{ArePut, Comes, HasClients, HasTaken, IsConfirmed, IsStill, Keeps, event_lines};
 ghost use Rattle.copycat_tool.specs.Turning.{Answers, KeepsRun};
 
 use crate::clients::Clients;
@@ -54,6 +54,7 @@ fn next_for<D: Disk>(
 ) -> Result<Next, NoSession>
     ensures is_open { OnOk result (IsOpen session host.new.core.sessions) }
     ensures still { IsStill host.old host.new }
+    ensures taken { IfOk result (λ next. HasTaken next session host.new.core.sessions client.new.last) }
     ensures comes { IsTrue D.tells → (files : Files) (run : Run) → IsAt D.view files host.old run
         → Comes D.view files session host.old host.new run client.old.last client.new.last result }
 {

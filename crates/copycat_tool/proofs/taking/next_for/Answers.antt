@@ -2,10 +2,10 @@ use Rattle.std.proofs.Common.{◌≡◌, ◌∙◌, Option, Some, None, ap, refl
 use Rattle.std.specs.Prelude.{option_copied}
 use Rattle.std.specs.Option.{option_map}
 use Rattle.log_model.specs.hosted.Hosted.{Hosted}
-use Rattle.log_model.specs.serving.Batches.{Batch, Repeated, take_batch}
+use Rattle.log_model.specs.serving.Batches.{Batch, Repeated, Taken, take_batch}
 use Rattle.event_batches.specs.Kept.{as_batch}
 use Rattle.resource_catalog.specs.Catalog.{catalog_decision}
-use Rattle.copycat_tool.proofs.ClientLemmas.{last_stays, says_repeat}
+use Rattle.copycat_tool.proofs.ClientLemmas.{last_stays, last_taken_is, says_repeat, says_taken}
 use Rattle.copycat_tool.proofs.TakingLemmas.{fewer_left, known_first, knows_one, missed_next, none_at, nothing_next, still_more, taken_next}
 use Rattle.copycat_tool.proofs.taking.next_for.Goals as goal
 
@@ -40,6 +40,12 @@ returns-in-Taken-clause-comes g c = λ t files run at.
     taken_next (c.plain_machines_are_plain.ensures catalog_decision c.catalog_is_plain.ensures) c.serves_in_turn.ensures g.D.Disk.view files c.args.session c.loop-batch.host run c.args.client.now.last (c.loop-batch.invariant.known t files run at)
     c.args.host.now c.loop-batch.client.last c.take.new.self.last (as_batch c.in-Ok-Some.batch.now) c.loop-batch.invariant.client c.in-Ok-Some.ensures.is_open
     (sym c.in-Ok-Some.ensures.served ∙ ap (λ o. option_map as_batch (option_copied o)) c.in-Ok-Some.field-0-is) (sym c.take.ensures.answer ∙ c.in-Taken.is) c.take.ensures.last
+
+pub returns-in-Taken-clause-taken : goal.returns-in-Taken-clause-taken
+returns-in-Taken-clause-taken g c =
+    let b : Batch = as_batch c.in-Ok-Some.batch.now in
+    let takes : take_batch c.loop-batch.client.last b ≡ Taken = says_taken c.loop-batch.client.last (take_batch c.loop-batch.client.last b) (sym c.take.ensures.answer ∙ c.in-Taken.is) in
+    (b, sym c.in-Ok-Some.ensures.served ∙ ap (λ o. option_map as_batch (option_copied o)) c.in-Ok-Some.field-0-is, sym (c.take.ensures.last ∙ last_taken_is c.loop-batch.client.last b takes))
 
 pub returns-in-Missed-clause-still : goal.returns-in-Missed-clause-still
 returns-in-Missed-clause-still g c = c.loop-batch.invariant.still
