@@ -1,5 +1,5 @@
 -- The members of a session: they are found among the cells that it owns, one after the other.
-use Rattle.std.proofs.Common.{◌≡◌, ◌≢◌, ℕ, ◌+◌, ◌<◌, ◌==◌, Bool, true, false, cond, T, List, [], ◌∷◌, ◌++◌, length, Option, Some, None, refl, sym, ap, subst, ◌∙◌, eq-eqb, eqb-true, nat_lt, arith, zero, suc, Less, Equal, Greater}
+use Rattle.std.proofs.Common.{◌≡◌, ◌≢◌, ℕ, ◌+◌, ◌<◌, ◌==◌, Bool, true, false, cond, T, List, [], ◌∷◌, ◌++◌, length, Option, Some, None, IsTrue, refl, sym, ap, subst, ◌∙◌, eq-eqb, eqb-true, nat_lt, arith, zero, suc, Less, Equal, Greater}
 use Rattle.std.proofs.lemmas.Bool.Decides.{nat_tests}
 use Rattle.std.specs.Prelude.{IfSome}
 use Rattle.std.specs.List.{filter}
@@ -14,16 +14,23 @@ use Rattle.host_types.specs.declared.entry.Content.TheVariants.{Mark, Text, Numb
 use Rattle.host_types.specs.declared.entry.Kind.{Kind}
 use Rattle.host_types.specs.declared.entry.Kind.TheVariants.{Group}
 use Rattle.host_types.specs.Ranges.{owner_number}
-use Rattle.host_types.specs.Cells.{Place, Name_at, Cell_at, Register_at, Alive_at, Held, Cells, cell_cmp, place_cmp, is_owned_by, is_of_kind}
+use Rattle.host_types.specs.Cells.{Place, Name_at, Cell_at, Register_at, Alive_at, Held, Cells, at, cell_cmp, place_cmp, is_owned_by, is_of_kind}
 use Rattle.log_model.specs.plain.Plain.{Member}
 use Rattle.log_model.specs.kinds.Reading.{listed, picked_first, pick_in, values, keyed_by, text_in, member_in, member_of}
-use Rattle.log_model.proofs.kinds.Gather.{EachCell, none_some}
-use Rattle.log_model.proofs.kinds.Keyed.{at_order}
-use Rattle.log_model.proofs.kinds.Listings.{from_least, in_order, only_members}
-use Rattle.log_model.proofs.kinds.Tabled.{IsOf, each_of, cell_of}
+use Rattle.log_model.proofs.Lookups.{T_from}
+use Rattle.log_model.proofs.kinds.Gather.{EachCell, at_order, each_cell, in_order, none_some, only_members, weaker_cell}
+use Rattle.log_model.proofs.kinds.Listings.{AreOf, cell_of, from_least}
 use Rattle.cell_table.specs.Lookups.{and_above, cells_from, cells_above, owned_of, AreInOrder}
 use Rattle.lock_group.specs.Members.{members_in, members_from, members_above, member_seen, indexes_of, members_of as members_of_session, noted_of, its_cells, members_on, seen_in, left_of}
 use Rattle.lock_group.proofs.Walk.{member_there, no_member_behind, seen_by, session_step, joined, none_left}
+
+-- ---- each cell is one of the kind
+
+abbrev IsOf : Kind → ℕ → Place × Held → Type 0
+IsOf kind m e = (cell : Cell) × (e.0 ≡ Cell_at m cell) × (is_of_kind kind cell e.1.content ≡ true)
+
+each_of : (kind : Kind) (m : ℕ) (c : Cells) → IsTrue (is_sorted place_cmp c) → AreOf kind m c → EachCell (IsOf kind m) c
+each_of kind m c s own = weaker_cell (λ e. at c e.0 ≡ Some e.1) (IsOf kind m) (λ e there. own e.0 e.1 there) c (each_cell c (T_from _ s))
 
 -- ---- which cells a session owns
 
