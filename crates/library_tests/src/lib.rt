@@ -32,6 +32,8 @@ mod machine_tests;
 #[cfg(test)]
 mod machines;
 #[cfg(test)]
+mod offset_index_tests;
+#[cfg(test)]
 mod resource_catalog_tests;
 #[cfg(test)]
 mod resources;
