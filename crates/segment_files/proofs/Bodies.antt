@@ -9,10 +9,11 @@ use Rattle.std.specs.Int.{w64, to_be_bytes}
 use Rattle.entry_codec.specs.Reading.{Spelling, Spells, Spoils, spelling}
 use Rattle.segment_files.specs.Numbers.{Eight, number_at}
 use Rattle.segment_files.specs.Parse.{Numbered, Body, Holds, Breaks, Follows, with_entry, is_misplaced, spelled_first, first_of, body, frame_room, is_next}
-use Rattle.segment_files.specs.Contents.{ReadsBody, ReadsNext}
+use Rattle.segment_files.specs.Contents.{AreIn, Offset_list, ReadsBody, ReadsNext}
 use Rattle.segment_files.specs.declared.windows.EntryRead.{EntryRead}
 use Rattle.segment_files.specs.declared.windows.EntryRead.TheVariants.{Whole as Is_entry, Damaged as Is_no_entry}
 use Rattle.segment_files.proofs.Indexes.{index_read}
+use Rattle.segment_files.proofs.Placing.{in_none, in_one, in_more}
 
 -- entries ahead of a body, and how many bytes they take
 abbrev pub in_front : Numbered → ℕ → Body → Body
@@ -73,41 +74,53 @@ module _ (f : Follows) where
       placed false is = by (spelling l) is
 
 -- THE BODY, as far as it was read
-pub record BodyPassed (bytes : List ℕ) (before count at : ℕ) (old new : Numbered) : Type 0 where
+pub record BodyPassed (bytes : List ℕ) (before place count at : ℕ) (old new : Offset_list) : Type 0 where
   pub more : Numbered
-  pub items : new ≡ old ++ more
+  pub offsets : Offset_list
+  pub as_many : length offsets ≡ length more
+  pub items : new ≡ old ++ offsets
   pub few : count ≤ frame_room
   pub long : length more ≡ count
   pub within : at ≤ length bytes
   pub walk : body is_next frame_room before bytes ≡ in_front more at (body is_next (frame_room - count) (before + count) (drop at bytes))
+  pub laid : AreIn bytes before place (length old) more offsets at
 
-pub body_start : (bytes : List ℕ) (before : ℕ) (old : Numbered) → BodyPassed bytes before 0 0 old old
-body_start bytes before old = record {
+pub body_start : (bytes : List ℕ) (before place : ℕ) (old : Offset_list) → BodyPassed bytes before place 0 0 old old
+body_start bytes before place old = record {
   more = [];
+  offsets = [];
+  as_many = refl;
   items = sym (append-nil old);
   few = omega arith;
   long = refl;
   within = omega arith;
   walk = in_front_none (body is_next frame_room before bytes) ∙ ap (λ (k : ℕ). in_front [] 0 (body is_next frame_room k bytes)) (omega arith);
+  laid = in_none bytes before place (length old);
 }
 
-module _ (bytes : List ℕ) (before count at : ℕ) (old new : Numbered) (passed : BodyPassed bytes before count at old new) where
+module _ (bytes : List ℕ) (before place count at : ℕ) (old new : Offset_list) (passed : BodyPassed bytes before place count at old new) where
   abbrev rest : List ℕ
   rest = drop at bytes
 
   left : at < length bytes → 0 < length rest
   left lt = omega (arith, length-drop at bytes)
 
-  breaks_with : (place : ℕ) → body is_next (frame_room - count) (before + count) rest ≡ Breaks place → body is_next frame_room before bytes ≡ Breaks (at + place)
-  breaks_with place broken = passed.walk ∙ ap (in_front passed.more at) broken
+  breaks_with : (behind : ℕ) → body is_next (frame_room - count) (before + count) rest ≡ Breaks behind → body is_next frame_room before bytes ≡ Breaks (at + behind)
+  breaks_with behind broken = passed.walk ∙ ap (in_front passed.more at) broken
+
+  -- how many there are by now
+  pub so_many : length new ≡ length old + count
+  so_many = ap length passed.items ∙ length-append old passed.offsets ∙ ap (λ (k : ℕ). length old + k) (passed.as_many ∙ passed.long)
 
   -- it goes on, and no entry may follow
-  pub breaks_full : at < length bytes → count ≡ frame_room → ReadsBody bytes before old new (Some at)
+  pub breaks_full : at < length bytes → count ≡ frame_room → ReadsBody bytes before place old new (Some at)
   breaks_full lt full =
       let none : frame_room - count ≡ 0 = omega (arith, full) in
       let broken : body is_next frame_room before bytes ≡ Breaks (at + 0) = breaks_with 0 (ap (λ (k : ℕ). body is_next k (before + count) rest) none ∙ body_no_room is_next (before + count) rest (left lt)) in
       record {
         more = passed.more;
+        offsets = passed.offsets;
+        as_many = passed.as_many;
         items = passed.items;
         is = (broken ∙ ap (λ (k : ℕ). Breaks k) (omega arith), passed.within);
       }
@@ -124,24 +137,29 @@ module _ (bytes : List ℕ) (before count at : ℕ) (old new : Numbered) (passed
   room_left not_full = let few = passed.few in omega arith
 
   -- no entry follows
-  pub breaks_next : at < length bytes → (count ≡ frame_room → ⊥) → (next : Numbered) (place : ℕ) → ReadsNext rest (before + count) new next (Is_no_entry place) → ReadsBody bytes before old next (Some (at + place))
-  breaks_next lt not_full next place none = record {
+  pub breaks_next : at < length bytes → (count ≡ frame_room → ⊥) → (next : Offset_list) (behind : ℕ) → ReadsNext rest (before + count) (place + at) new next (Is_no_entry behind) → ReadsBody bytes before place old next (Some (at + behind))
+  breaks_next lt not_full next behind none = record {
     more = passed.more;
+    offsets = passed.offsets;
+    as_many = passed.as_many;
     items = none.1 ∙ passed.items;
     is = (
-      breaks_with place (at_entry lt (room_left not_full) ∙ none.0 (λ index size. body is_next (frame_room - (count + 1)) index (drop size rest))),
+      breaks_with behind (at_entry lt (room_left not_full) ∙ none.0 (λ index size. body is_next (frame_room - (count + 1)) index (drop size rest))),
       (let low = none.2 in omega (arith, low, length-drop at bytes, lt)),
     );
   }
 
   -- with the entry that follows
-  pub one_more : at < length bytes → (count ≡ frame_room → ⊥) → (next : Numbered) (size : ℕ) → ReadsNext rest (before + count) new next (Is_entry size) → BodyPassed bytes before (count + 1) (at + size) old next
-  one_more lt not_full next size (entry, reads, low, items, some, short) =
+  pub one_more : at < length bytes → (count ≡ frame_room → ⊥) → (next : Offset_list) (size : ℕ) → ReadsNext rest (before + count) (place + at) new next (Is_entry size) → BodyPassed bytes before place (count + 1) (at + size) old next
+  one_more lt not_full next size (entry, reads, low, items, some, short, by) =
       let es : Numbered = (before + count + 1, entry) ∷ [] in
+      let os : Offset_list = (length new, place + at) ∷ [] in
       let D = body is_next (frame_room - (count + 1)) (before + count + 1) (drop size rest) in
       record {
         more = passed.more ++ es;
-        items = items ∙ ap (λ (l : Numbered). l ++ es) passed.items ∙ append_assoc old passed.more es;
+        offsets = passed.offsets ++ os;
+        as_many = length-append passed.offsets os ∙ ap (λ (k : ℕ). k + 1) passed.as_many ∙ sym (length-append passed.more es);
+        items = items ∙ ap (λ (l : Offset_list). l ++ os) passed.items ∙ append_assoc old passed.offsets os;
         few = let room = room_left not_full in omega arith;
         long = omega (arith, length-append passed.more es, passed.long);
         within = omega (arith, short, length-drop at bytes, lt);
@@ -153,24 +171,32 @@ module _ (bytes : List ℕ) (before count at : ℕ) (old new : Numbered) (passed
             ∙ in_front_more passed.more es at size D
             ∙ ap (λ (k : ℕ). in_front (passed.more ++ es) (at + size) (body is_next (frame_room - (count + 1)) k (drop size rest))) (omega arith)
             ∙ ap (λ (l : List ℕ). in_front (passed.more ++ es) (at + size) (body is_next (frame_room - (count + 1)) (before + (count + 1)) l)) (drop-drop size at bytes);
+        laid = in_more bytes before place (length old) passed.more passed.offsets at passed.laid (before + count) (length new) size es os passed.within (omega (arith, so_many)) (in_one rest (before + count) (place + at) (length new) size entry short some by);
       }
 
   -- to its end
-  pub holds_all : length bytes ≤ at → ReadsBody bytes before old new None
-  holds_all le = record {
-    more = passed.more;
-    items = passed.items;
-    is = passed.walk
-        ∙ ap (λ (l : List ℕ). in_front passed.more at (body is_next (frame_room - count) (before + count) l)) (drop_all at bytes le)
-        ∙ ap (in_front passed.more at) (body_end is_next (frame_room - count) (before + count))
-        ∙ ap (λ (l : Numbered). Holds l) (append-nil passed.more);
-  }
+  pub holds_all : length bytes ≤ at → ReadsBody bytes before place old new None
+  holds_all le =
+      let end : at ≡ length bytes = omega (arith, le, passed.within) in
+      record {
+        more = passed.more;
+        offsets = passed.offsets;
+        as_many = passed.as_many;
+        items = passed.items;
+        is = (
+          passed.walk
+              ∙ ap (λ (l : List ℕ). in_front passed.more at (body is_next (frame_room - count) (before + count) l)) (drop_all at bytes le)
+              ∙ ap (in_front passed.more at) (body_end is_next (frame_room - count) (before + count))
+              ∙ ap (λ (l : Numbered). Holds l) (append-nil passed.more),
+          subst (λ (k : ℕ). AreIn bytes before place (length old) passed.more passed.offsets k) end passed.laid,
+        );
+      }
 
 -- what an entry is that was read
 module _ (bytes : List ℕ) (before : ℕ) where
   -- one that may not stand there, whatever else it is
-  pub misplaced_next : (old : Numbered) → is_misplaced is_next before bytes ≡ true → ReadsNext bytes before old old (Is_no_entry 0)
-  misplaced_next old is = (
+  pub misplaced_next : (place : ℕ) (old : Offset_list) → is_misplaced is_next before bytes ≡ true → ReadsNext bytes before place old old (Is_no_entry 0)
+  misplaced_next place old is = (
     (λ rest. ap (λ (t : Bool). if t then Breaks 0 else spelled_first (spelling bytes) rest) is),
     refl,
     omega arith,
@@ -180,8 +206,8 @@ module _ (bytes : List ℕ) (before : ℕ) where
     by_spelling : (rest : ℕ → ℕ → Body) (s : Spelling) → spelling bytes ≡ s → first_of is_next before bytes rest ≡ spelled_first s rest
     by_spelling rest s spells = ap (λ (t : Bool). if t then Breaks 0 else spelled_first (spelling bytes) rest) placed ∙ ap (λ (x : Spelling). spelled_first x rest) spells
 
-    pub spoils_next : (old : Numbered) (place : ℕ) → spelling bytes ≡ Spoils place → place ≤ length bytes → ReadsNext bytes before old old (Is_no_entry place)
-    spoils_next old place spoils low = ((λ rest. by_spelling rest (Spoils place) spoils), refl, low)
+    pub spoils_next : (place : ℕ) (old : Offset_list) (at : ℕ) → spelling bytes ≡ Spoils at → at ≤ length bytes → ReadsNext bytes before place old old (Is_no_entry at)
+    spoils_next place old at spoils low = ((λ rest. by_spelling rest (Spoils at) spoils), refl, low)
 
     -- an index that may stand there is the next
     pub next_index : (index : ℕ) (entry : Entry) (size : ℕ) → spelling bytes ≡ Spells index entry size → is_next before index ≡ true
@@ -195,16 +221,18 @@ module _ (bytes : List ℕ) (before : ℕ) where
         is_true true is = refl
         is_true false is = absurd (cc)
 
-    pub fit_next : (old next : Numbered) (index : ℕ) (entry : Entry) (size : ℕ) → spelling bytes ≡ Spells index entry size → next ≡ old ++ (index, entry) ∷ [] → 1 ≤ size → size ≤ length bytes → ReadsNext bytes before old next (Is_entry size)
-    fit_next old next index entry size spells items some short =
+    pub fit_next : (place : ℕ) (old next : Offset_list) (index : ℕ) (entry : Entry) (size : ℕ) → spelling bytes ≡ Spells index entry size → next ≡ old ++ (length old, place) ∷ [] → 1 ≤ size → size ≤ length bytes
+        → IsSpelledBy (take size bytes) index entry → ReadsNext bytes before place old next (Is_entry size)
+    fit_next place old next index entry size spells items some short by =
         let parts = and_parts (nat_eq index (before + 1)) (nat_le index last_limit) (next_index index entry size spells) in
         let is : index ≡ before + 1 = eqb-true index (before + 1) parts.0 in (
           entry,
           (λ rest. by_spelling rest (Spells (before + 1) entry size) (subst (λ (k : ℕ). spelling bytes ≡ Spells k entry size) is spells)),
           subst (λ (k : ℕ). k ≤ last_limit) is (leb-true index last_limit parts.1),
-          subst (λ (k : ℕ). next ≡ old ++ (k, entry) ∷ []) is items,
+          items,
           some,
           short,
+          subst (λ (k : ℕ). IsSpelledBy (take size bytes) k entry) is by,
         )
 
 some_spelled : (index : ℕ) (entry : Entry) → 1 ≤ length (spelled index entry)
@@ -220,6 +248,6 @@ all_behind : (bytes : List ℕ) (at : ℕ) → take (length bytes - at) (drop at
 all_behind bytes at = take_all (length bytes - at) (drop at bytes) (omega (arith, length-drop at bytes))
 
 -- what was read of the bytes from a place on
-pub next_at : (bytes : List ℕ) (at k : ℕ) (old new : Numbered) (a b : EntryRead) → a ≡ b → ReadsNext (take (length bytes - at) (drop at bytes)) k old new a → ReadsNext (drop at bytes) k old new b
-next_at bytes at k old new a b is read =
-    subst (λ (l : List ℕ). ReadsNext l k old new b) (all_behind bytes at) (subst (λ (x : EntryRead). ReadsNext (take (length bytes - at) (drop at bytes)) k old new x) is read)
+pub next_at : (bytes : List ℕ) (at k place : ℕ) (old new : Offset_list) (a b : EntryRead) → a ≡ b → ReadsNext (take (length bytes - at) (drop at bytes)) k place old new a → ReadsNext (drop at bytes) k place old new b
+next_at bytes at k place old new a b is read =
+    subst (λ (l : List ℕ). ReadsNext l k place old new b) (all_behind bytes at) (subst (λ (x : EntryRead). ReadsNext (take (length bytes - at) (drop at bytes)) k place old new x) is read)

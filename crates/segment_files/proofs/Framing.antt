@@ -6,9 +6,10 @@ use Rattle.std.specs.Int.{w32, w64, from_be_bytes}
 use Rattle.segment_files.specs.declared.numbers.Size.{Size}
 use Rattle.segment_files.specs.Numbers.{One, Four, Eight, bytes_of, number_at}
 use Rattle.segment_files.specs.Parse.{Numbered, Body, Holds, body, body_limit, Frame, Framed, Crooked, framed, frame, frame_room, is_next}
-use Rattle.segment_files.specs.Contents.{MayFollow, ReadsBody, ReadsFrame}
+use Rattle.segment_files.specs.Contents.{AreIn, MayFollow, Offset_list, ReadsBody, ReadsFrame}
 use Rattle.segment_files.specs.declared.windows.FrameRead.TheVariants.{Whole as Is_whole, Cut as Is_cut, Damaged as Is_no_frame}
 use Rattle.segment_files.proofs.Bodies.{some_entry}
+use Rattle.segment_files.proofs.Placing.{in_body}
 
 -- a number is the same where more follows
 pub number_ahead : (size : Size) (at : ℕ) (b rest : List ℕ) → at + bytes_of size ≤ length b → number_at size at (b ++ rest) ≡ number_at size at b
@@ -70,7 +71,7 @@ size_large size large = ap (λ (t : Bool). nat_le 17 size && t) (lt-leb size bod
     of true = refl
     of false = refl
 
-module _ (before : ℕ) (behind : List ℕ) where
+module _ (before place : ℕ) (behind : List ℕ) where
   abbrev size : ℕ
   size = number_at Four 0 behind
 
@@ -79,9 +80,11 @@ module _ (before : ℕ) (behind : List ℕ) where
   at_end is_end is rest may = ap (λ (l : List ℕ). behind ++ l) (may is) ∙ append-nil behind
 
   -- less than a length
-  pub cut_length : (is_end : Bool) (old : Numbered) → length behind < 4 → ReadsFrame behind is_end before old old (if is_end then Is_no_frame (length behind) else Is_cut)
+  pub cut_length : (is_end : Bool) (old : Offset_list) → length behind < 4 → ReadsFrame behind is_end before place old old (if is_end then Is_no_frame (length behind) else Is_cut)
   cut_length true old few = record {
     more = [];
+    offsets = [];
+    as_many = refl;
     items = sym (append-nil old);
     is = (
       (λ rest may.
@@ -91,11 +94,11 @@ module _ (before : ℕ) (behind : List ℕ) where
       omega arith,
     );
   }
-  cut_length false old few = record { more = []; items = sym (append-nil old); is = (refl, refl) }
+  cut_length false old few = record { more = []; offsets = []; as_many = refl; items = sym (append-nil old); is = (refl, refl, refl) }
 
   -- less than a body, where the file may go on
-  pub cut_body : (is_end : Bool) (old : Numbered) → is_end ≡ false → ReadsFrame behind is_end before old old Is_cut
-  cut_body is_end old is = record { more = []; items = sym (append-nil old); is = (refl, is) }
+  pub cut_body : (is_end : Bool) (old : Offset_list) → is_end ≡ false → ReadsFrame behind is_end before place old old Is_cut
+  cut_body is_end old is = record { more = []; offsets = []; as_many = refl; items = sym (append-nil old); is = (refl, refl, is) }
 
   module _ (long : 4 ≤ length behind) where
     -- what is behind the gate, where more follows
@@ -105,9 +108,11 @@ module _ (before : ℕ) (behind : List ℕ) where
     more_there : (rest : List ℕ) → 4 ≤ length (behind ++ rest)
     more_there rest = omega (arith, long, length-append behind rest)
 
-    pub no_frame_size : (is_end : Bool) (old : Numbered) → (size < 17) ⊎ (body_limit < size) → ReadsFrame behind is_end before old old (Is_no_frame 0)
+    pub no_frame_size : (is_end : Bool) (old : Offset_list) → (size < 17) ⊎ (body_limit < size) → ReadsFrame behind is_end before place old old (Is_no_frame 0)
     no_frame_size is_end old out = record {
       more = [];
+      offsets = [];
+      as_many = refl;
       items = sym (append-nil old);
       is = ((λ rest may. form_ahead rest ∙ form_size size (length (behind ++ rest)) (body_in before size (behind ++ rest)) (more_there rest) (unfit out)), omega arith);
     }
@@ -140,9 +145,11 @@ module _ (before : ℕ) (behind : List ℕ) where
       body_there rest may = ap (body is_next frame_room before) (all_there rest may)
 
       -- it breaks
-      pub frame_broken : (old new : Numbered) (place : ℕ) → ReadsBody (take there (drop 4 behind)) before old new (Some place) → ReadsFrame behind is_end before old new (Is_no_frame (4 + place))
-      frame_broken old new place r = record {
+      pub frame_broken : (old new : Offset_list) (at : ℕ) → ReadsBody (take there (drop 4 behind)) before (place + 4) old new (Some at) → ReadsFrame behind is_end before place old new (Is_no_frame (4 + at))
+      frame_broken old new at r = record {
         more = r.more;
+        offsets = r.offsets;
+        as_many = r.as_many;
         items = r.items;
         is = (
           (λ rest may. by_body rest ∙ ap (framed size (length (behind ++ rest))) (body_there rest may ∙ r.is.0)),
@@ -151,16 +158,18 @@ module _ (before : ℕ) (behind : List ℕ) where
       }
 
       -- it is entries, and cut by the end of the file
-      frame_short : (old new : Numbered) → length behind < 4 + size → ReadsBody (take there (drop 4 behind)) before old new None → ReadsFrame behind is_end before old new (Is_no_frame (length behind))
+      frame_short : (old new : Offset_list) → length behind < 4 + size → ReadsBody (take there (drop 4 behind)) before (place + 4) old new None → ReadsFrame behind is_end before place old new (Is_no_frame (length behind))
       frame_short old new short r =
           let end : is_end ≡ true = enough (omega (arith, there_is, short)) in
           record {
             more = r.more;
+            offsets = r.offsets;
+            as_many = r.as_many;
             items = r.items;
             is = (
               (λ rest may.
                   by_body rest
-                  ∙ ap (framed size (length (behind ++ rest))) (body_there rest may ∙ r.is)
+                  ∙ ap (framed size (length (behind ++ rest))) (body_there rest may ∙ r.is.0)
                   ∙ ap (λ (l : List ℕ). if nat_lt (length l) (4 + size) then Crooked (length l) else Framed r.more (4 + size)) (at_end is_end end rest may)
                   ∙ ap (λ (t : Bool). if t then Crooked (length behind) else Framed r.more (4 + size)) (lt-ltb (length behind) (4 + size) short)),
               omega arith,
@@ -168,29 +177,33 @@ module _ (before : ℕ) (behind : List ℕ) where
           }
 
       -- it is entries, and whole
-      frame_whole : (old new : Numbered) → 4 + size ≤ length behind → ReadsBody (take there (drop 4 behind)) before old new None → ReadsFrame behind is_end before old new (Is_whole (4 + size))
+      frame_whole : (old new : Offset_list) → 4 + size ≤ length behind → ReadsBody (take there (drop 4 behind)) before (place + 4) old new None → ReadsFrame behind is_end before place old new (Is_whole (4 + size))
       frame_whole old new le r =
           let same : there ≡ size = omega (arith, there_is, le) in
           let bytes_are : (rest : List ℕ) → take size (drop 4 (behind ++ rest)) ≡ take there (drop 4 behind) =
           λ rest. ap (take size) (drop-append-le 4 behind rest long) ∙ take-append-le size (drop 4 behind) rest (omega (arith, le, length-drop 4 behind)) ∙ ap (λ (k : ℕ). take k (drop 4 behind)) (sym same) in
           record {
             more = r.more;
+            offsets = r.offsets;
+            as_many = r.as_many;
             items = r.items;
             is = (
               (λ rest.
                   by_body rest
                   ∙ ap (λ (l : List ℕ). framed size (length (behind ++ rest)) (body is_next frame_room before l)) (bytes_are rest)
-                  ∙ ap (framed size (length (behind ++ rest))) r.is
+                  ∙ ap (framed size (length (behind ++ rest))) r.is.0
                   ∙ ap (λ (t : Bool). if t then Crooked (length (behind ++ rest)) else Framed r.more (4 + size)) (le-ltb (length (behind ++ rest)) (4 + size) (omega (arith, le, length-append behind rest)))),
               le,
               omega (arith, most),
-              some_entry is_next frame_room before (take there (drop 4 behind)) r.more (omega (arith, same, length-take there (drop 4 behind), length-drop 4 behind, le, least)) r.is,
+              some_entry is_next frame_room before (take there (drop 4 behind)) r.more (omega (arith, same, length-take there (drop 4 behind), length-drop 4 behind, le, least)) r.is.0,
+              in_body behind before place (length old) there size r.more r.offsets long
+                  (subst (λ (n : ℕ). AreIn (take there (drop 4 behind)) before (place + 4) (length old) r.more r.offsets n) (omega (arith, same, length-take there (drop 4 behind), length-drop 4 behind, le)) r.is.1),
             );
           }
 
-      pub frame_right : (old new : Numbered) → ReadsBody (take there (drop 4 behind)) before old new None
-          → ReadsFrame behind is_end before old new (if nat_lt (length behind) (4 + size) then Is_no_frame (length behind) else Is_whole (4 + size))
+      pub frame_right : (old new : Offset_list) → ReadsBody (take there (drop 4 behind)) before (place + 4) old new None
+          → ReadsFrame behind is_end before place old new (if nat_lt (length behind) (4 + size) then Is_no_frame (length behind) else Is_whole (4 + size))
       frame_right old new r = ⊎_elim
-          (λ less. subst (λ (t : Bool). ReadsFrame behind is_end before old new (if t then Is_no_frame (length behind) else Is_whole (4 + size))) (sym (lt-ltb (length behind) (4 + size) less)) (frame_short old new less r))
-          (λ more. subst (λ (t : Bool). ReadsFrame behind is_end before old new (if t then Is_no_frame (length behind) else Is_whole (4 + size))) (sym (le-ltb (length behind) (4 + size) more)) (frame_whole old new more r))
+          (λ less. subst (λ (t : Bool). ReadsFrame behind is_end before place old new (if t then Is_no_frame (length behind) else Is_whole (4 + size))) (sym (lt-ltb (length behind) (4 + size) less)) (frame_short old new less r))
+          (λ more. subst (λ (t : Bool). ReadsFrame behind is_end before place old new (if t then Is_no_frame (length behind) else Is_whole (4 + size))) (sym (le-ltb (length behind) (4 + size) more)) (frame_whole old new more r))
           (cases_lt (length behind) (4 + size))

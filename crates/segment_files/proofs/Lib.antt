@@ -5,12 +5,13 @@ pub mod Closed
 pub mod Settling
 pub mod Descriptors
 pub mod Indexes
+pub mod Standing
+pub mod Placing
 pub mod Framing
 pub mod Walks
 pub mod Writing
 pub mod Bodies
 pub mod Looking
-pub mod Numbering
 pub mod Scanning
 pub mod Wholes
 pub mod FrameLemmas

@@ -1,5 +1,5 @@
 -- What the reading of a file comes to, from its first bytes to its first gate that isn't open.
-use Rattle.std.proofs.Common.{◌≡◌, ⊎_elim, ℕ, ◌+◌, ◌-◌, ◌<◌, ◌≤◌, Bool, true, List, [], ◌++◌, length, take, drop, get_or, Option, Some, None, sym, ap, subst, ◌∙◌, arith, if◌then◌else◌, length-append, length-drop, take-append-drop}
+use Rattle.std.proofs.Common.{◌≡◌, ⊎_elim, ℕ, ◌+◌, ◌-◌, ◌<◌, ◌≤◌, Bool, true, List, [], ◌++◌, length, take, drop, get_or, Option, Some, None, refl, sym, ap, subst, ◌∙◌, arith, if◌then◌else◌, length-append, length-drop, take-append-drop}
 use Rattle.std.proofs.lemmas.List.{drop-drop, drop_all, take_all, get_or-take}
 use Rattle.std.proofs.lemmas.Bool.{and_from, cases_lt, eq-eqb, le-leb}
 use Rattle.disk_model.specs.declared.file_id.FileId.{FileId}
@@ -9,7 +9,8 @@ use Rattle.segment_files.specs.declared.windows.Walked.TheVariants.{Gate, Rest, 
 use Rattle.segment_files.specs.declared.reading.Frames.TheVariants.{End, Damaged as Are_damaged}
 use Rattle.segment_files.specs.Files.{is_open}
 use Rattle.segment_files.specs.Parse.{Numbered, Closed, Damaged, Ends, Fails, appended_walk, appended_part, described, descriptor_fields, first_wrong, parse, parse_open}
-use Rattle.segment_files.specs.Contents.{IsWalked, ReadsWindow, ReadsPiece, HasFrames, extended}
+use Rattle.segment_files.specs.Contents.{AreAt, AreIn, IfRight, IsWalked, Offset_list, ReadsWindow, ReadsPiece, HasFrames, extended}
+use Rattle.segment_files.proofs.Placing.{at_join}
 use Rattle.segment_files.proofs.Walks.{extended_none, extended_more, walk_none}
 
 -- THE FIRST BYTES
@@ -42,8 +43,8 @@ module _ (id : FileId) (bytes : List ℕ) (is : is_open bytes ≡ true) where
 
 -- A PIECE
 
-pub piece : (bytes old_window window : List ℕ) (is_end : Bool) (at end n before : ℕ) (old new : Numbered) (walked : Walked) → end ≡ length bytes → at < end → length old_window ≡ length window → length old_window ≤ n
-    → (is_end ≡ true → length window ≡ end - at) → ReadsInto bytes at old_window window n → ReadsWindow window is_end before old new walked → ReadsPiece (drop at bytes) before old new walked
+pub piece : (bytes old_window window : List ℕ) (is_end : Bool) (at end n before : ℕ) (old new : Offset_list) (walked : Walked) → end ≡ length bytes → at < end → length old_window ≡ length window → length old_window ≤ n
+    → (is_end ≡ true → length window ≡ end - at) → ReadsInto bytes at old_window window n → ReadsWindow window is_end before at old new walked → ReadsPiece bytes before at old new walked
 piece bytes old_window window is_end at end n before old new walked end_is within same full last reads r =
     let n_is : n ≡ length window = omega (arith, full, same, reads.count) in
     let front : window ≡ take (length window) (drop at bytes) =
@@ -52,54 +53,94 @@ piece bytes old_window window is_end at end n before old new walked end_is withi
     let whole : drop at bytes ≡ window ++ rest = sym (take-append-drop (length window) (drop at bytes)) ∙ ap (λ (l : List ℕ). l ++ rest) (sym front) in
     record {
       more = r.more;
+      offsets = r.offsets;
+      as_many = r.as_many;
       items = r.items;
       walk = subst (λ (l : List ℕ). IsWalked l before r.more walked) (sym whole)
           (r.walk rest (λ is. let size = last is in drop_all (length window) (drop at bytes) (omega (arith, size, end_is, length-drop at bytes))));
+      laid = laid_in walked whole r.laid;
     }
+  where
+    laid_in : (w : Walked) → drop at bytes ≡ window ++ drop (length window) (drop at bytes) → IfRight (AreIn window before at (length old) r.more r.offsets) w
+        → IfRight (λ to. (base : ℕ) → before + 1 ≡ base + length old → AreAt base bytes at r.more r.offsets (at + to)) w
+    laid_in (Gate to) whole laid = λ base is. laid base bytes is (drop (length window) (drop at bytes), whole)
+    laid_in (Rest to) whole laid = λ base is. laid base bytes is (drop (length window) (drop at bytes), whole)
+    laid_in (Is_damaged to) whole laid = tt
 
 -- THE FRAMES, as far as they were read.
-pub record ScannedTo (bytes : List ℕ) (before : ℕ) (entries : Numbered) (at : ℕ) : Type 0 where
+pub record ScannedTo (bytes : List ℕ) (base : ℕ) (offsets : Offset_list) (at : ℕ) : Type 0 where
+  pub entries : Numbered
+  pub as_many : length offsets ≡ length entries
   pub start : 64 ≤ at
-  pub walk : appended_walk 0 before (drop 64 bytes) ≡ extended entries (at - 64) (appended_walk 0 (before + length entries) (drop at bytes))
+  pub walk : appended_walk 0 (base - 1) (drop 64 bytes) ≡ extended entries (at - 64) (appended_walk 0 (base - 1 + length entries) (drop at bytes))
+  pub laid : AreAt base bytes 64 entries offsets at
 
-pub scanned_none : (bytes : List ℕ) (before : ℕ) (entries : Numbered) → entries ≡ [] → ScannedTo bytes before entries 64
-scanned_none bytes before entries none = subst (λ (l : Numbered). ScannedTo bytes before l 64) (sym none) (record {
+pub scanned_none : (bytes : List ℕ) (base : ℕ) (offsets : Offset_list) → offsets ≡ [] → ScannedTo bytes base offsets 64
+scanned_none bytes base offsets none = subst (λ (l : Offset_list). ScannedTo bytes base l 64) (sym none) (record {
+  entries = [];
+  as_many = refl;
   start = omega arith;
-  walk = extended_none (appended_walk 0 before (drop 64 bytes)) ∙ ap (λ (k : ℕ). extended [] 0 (appended_walk 0 k (drop 64 bytes))) (omega arith);
+  walk = extended_none (appended_walk 0 (base - 1) (drop 64 bytes)) ∙ ap (λ (k : ℕ). extended [] 0 (appended_walk 0 k (drop 64 bytes))) (omega arith);
+  laid = omega arith;
 })
 
-module _ (bytes : List ℕ) (before : ℕ) (old new : Numbered) (at : ℕ) (scanned : ScannedTo bytes before old at) where
-  -- at the end of the file
-  pub scanned_end : length bytes ≤ at → HasFrames bytes before old (Are_damaged at)
-  scanned_end le =
-      let end : appended_walk 0 (before + length old) (drop at bytes) ≡ Fails 0 = ap (appended_walk 0 (before + length old)) (drop_all at bytes le) ∙ walk_none (before + length old) in
-      (scanned.start, scanned.walk ∙ ap (extended old (at - 64)) end ∙ ap (λ (k : ℕ). Fails k) (omega arith))
+module _ (bytes : List ℕ) (base : ℕ) (first : 1 ≤ base) (old new : Offset_list) (at : ℕ) (scanned : ScannedTo bytes base old at) where
+  abbrev es : Numbered
+  es = scanned.entries
 
-  pub scanned_bad : (place : ℕ) → ReadsPiece (drop at bytes) (before + length old) old new (Is_damaged place) → HasFrames bytes before new (Are_damaged (at + place))
+  -- the index before the next
+  abbrev now : ℕ
+  now = base - 1 + length old
+
+  same : base - 1 + length es ≡ now
+  same = omega (arith, scanned.as_many)
+
+  follows : now + 1 ≡ base + length old
+  follows = omega (arith, first)
+
+  walked : appended_walk 0 (base - 1) (drop 64 bytes) ≡ extended es (at - 64) (appended_walk 0 now (drop at bytes))
+  walked = scanned.walk ∙ ap (λ (k : ℕ). extended es (at - 64) (appended_walk 0 k (drop at bytes))) same
+
+  -- at the end of the file
+  pub scanned_end : length bytes ≤ at → HasFrames bytes base old (Are_damaged at)
+  scanned_end le =
+      let end : appended_walk 0 now (drop at bytes) ≡ Fails 0 = ap (appended_walk 0 now) (drop_all at bytes le) ∙ walk_none now in
+      (scanned.start, walked ∙ ap (extended es (at - 64)) end ∙ ap (λ (k : ℕ). Fails k) (omega arith))
+
+  pub scanned_bad : (place : ℕ) → ReadsPiece bytes now at old new (Is_damaged place) → HasFrames bytes base new (Are_damaged (at + place))
   scanned_bad place r = (
     omega (arith, scanned.start),
-    scanned.walk ∙ ap (extended old (at - 64)) r.walk ∙ ap (λ (k : ℕ). Fails k) (omega (arith, scanned.start)),
+    walked ∙ ap (extended es (at - 64)) r.walk ∙ ap (λ (k : ℕ). Fails k) (omega (arith, scanned.start)),
   )
 
-  pub scanned_gate : (behind : ℕ) → ReadsPiece (drop at bytes) (before + length old) old new (Gate behind) → HasFrames bytes before new (End (at + behind))
+  joined : (to : ℕ) (more : Numbered) (offsets : Offset_list) → new ≡ old ++ offsets → AreAt base bytes at more offsets to → AreAt base bytes 64 (es ++ more) new to
+  joined to more offsets items behind = subst (λ (l : Offset_list). AreAt base bytes 64 (es ++ more) l to) (sym items) (at_join base bytes 64 at to es more old offsets scanned.laid behind)
+
+  pub scanned_gate : (behind : ℕ) → ReadsPiece bytes now at old new (Gate behind) → HasFrames bytes base new (End (at + behind))
   scanned_gate behind r =
       let place : at - 64 + behind ≡ at + behind - 64 = omega (arith, scanned.start) in (
+        es ++ r.more,
         omega (arith, scanned.start),
-        scanned.walk ∙ ap (extended old (at - 64)) r.walk ∙ ap (λ (l : Numbered). Ends l (at - 64 + behind)) (sym r.items) ∙ ap (λ (k : ℕ). Ends new k) place,
+        walked ∙ ap (extended es (at - 64)) r.walk ∙ ap (λ (k : ℕ). Ends (es ++ r.more) k) place,
+        joined (at + behind) r.more r.offsets r.items (r.laid base follows),
       )
 
-  pub scanned_more : (behind : ℕ) → ReadsPiece (drop at bytes) (before + length old) old new (Rest behind) → ScannedTo bytes before new (at + behind)
+  pub scanned_more : (behind : ℕ) → ReadsPiece bytes now at old new (Rest behind) → ScannedTo bytes base new (at + behind)
   scanned_more behind r =
       let place : at - 64 + behind ≡ at + behind - 64 = omega (arith, scanned.start) in
-      let count : before + length old + length r.more ≡ before + length new = omega (arith, ap length r.items, length-append old r.more) in
-      let further = appended_walk 0 (before + length old + length r.more) (drop behind (drop at bytes)) in
+      let all = es ++ r.more in
+      let long : length all ≡ length es + length r.more = length-append es r.more in
+      let count : now + length r.more ≡ base - 1 + length all = omega (arith, long, scanned.as_many) in
+      let further = appended_walk 0 (now + length r.more) (drop behind (drop at bytes)) in
       record {
+        entries = all;
+        as_many = ap length r.items ∙ length-append old r.offsets ∙ omega (arith, long, scanned.as_many, r.as_many);
         start = omega (arith, scanned.start);
-        walk = scanned.walk
-            ∙ ap (extended old (at - 64)) r.walk
-            ∙ extended_more old r.more (at - 64) behind further
-            ∙ ap (λ (l : Numbered). extended l (at - 64 + behind) further) (sym r.items)
-            ∙ ap (λ (k : ℕ). extended new k further) place
-            ∙ ap (λ (k : ℕ). extended new (at + behind - 64) (appended_walk 0 k (drop behind (drop at bytes)))) count
-            ∙ ap (λ (l : List ℕ). extended new (at + behind - 64) (appended_walk 0 (before + length new) l)) (drop-drop behind at bytes);
+        walk = walked
+            ∙ ap (extended es (at - 64)) r.walk
+            ∙ extended_more es r.more (at - 64) behind further
+            ∙ ap (λ (k : ℕ). extended all k further) place
+            ∙ ap (λ (k : ℕ). extended all (at + behind - 64) (appended_walk 0 k (drop behind (drop at bytes)))) count
+            ∙ ap (λ (l : List ℕ). extended all (at + behind - 64) (appended_walk 0 (base - 1 + length all) l)) (drop-drop behind at bytes);
+        laid = joined (at + behind) r.more r.offsets r.items (r.laid base follows);
       }

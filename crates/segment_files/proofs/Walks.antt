@@ -6,7 +6,8 @@ use Rattle.segment_files.specs.declared.windows.Walked.TheVariants.{Gate, Rest, 
 use Rattle.segment_files.specs.declared.windows.FrameRead.{FrameRead}
 use Rattle.segment_files.specs.declared.windows.FrameRead.TheVariants.{Whole as Is_whole, Cut as Is_cut, Damaged as Is_no_frame}
 use Rattle.segment_files.specs.Parse.{Numbered, Frame, Framed, Crooked, frame, frame_room, is_next, Walk, Ends, Fails, behind_byte, behind_frame, go_on, appended_walk}
-use Rattle.segment_files.specs.Contents.{extended, frame_limit, ReadsFrame, ReadsWindow}
+use Rattle.segment_files.specs.Contents.{AreIn, Offset_list, extended, frame_limit, ReadsFrame, ReadsWindow}
+use Rattle.segment_files.proofs.Placing.{in_none, in_frame}
 
 pub extended_none : (w : Walk) → w ≡ extended [] 0 w
 extended_none (Ends es g) = ap (λ (k : ℕ). Ends es k) (omega arith)
@@ -60,21 +61,27 @@ pub no_frame : (before place : ℕ) (l : List ℕ) → frame is_next frame_room 
 no_frame before place l is = walk_open before l ∙ ap (λ (f : Frame). go_on f (λ entries size. appended_walk size (before + length entries) l)) is
 
 -- THE WINDOW, as far as it was read: whole frames.
-pub record Passed (window : List ℕ) (before : ℕ) (old new : Numbered) (at : ℕ) : Type 0 where
+pub record Passed (window : List ℕ) (before place : ℕ) (old new : Offset_list) (at : ℕ) : Type 0 where
   pub more : Numbered
-  pub items : new ≡ old ++ more
+  pub offsets : Offset_list
+  pub as_many : length offsets ≡ length more
+  pub items : new ≡ old ++ offsets
   pub within : at ≤ length window
   pub walk : (rest : List ℕ) → appended_walk 0 before (window ++ rest) ≡ extended more at (appended_walk 0 (before + length more) (drop at window ++ rest))
+  pub laid : AreIn window before place (length old) more offsets at
 
-pub passed_none : (window : List ℕ) (before : ℕ) (old : Numbered) → Passed window before old old 0
-passed_none window before old = record {
+pub passed_none : (window : List ℕ) (before place : ℕ) (old : Offset_list) → Passed window before place old old 0
+passed_none window before place old = record {
   more = [];
+  offsets = [];
+  as_many = refl;
   items = sym (append-nil old);
   within = omega arith;
   walk = λ rest. extended_none (appended_walk 0 before (window ++ rest)) ∙ ap (λ (k : ℕ). extended [] 0 (appended_walk 0 k (window ++ rest))) (omega arith);
+  laid = in_none window before place (length old);
 }
 
-module _ (window : List ℕ) (is_end : Bool) (before : ℕ) (old new : Numbered) (at : ℕ) (passed : Passed window before old new at) where
+module _ (window : List ℕ) (is_end : Bool) (before place : ℕ) (old new : Offset_list) (at : ℕ) (passed : Passed window before place old new at) where
   -- the index before the next
   abbrev now : ℕ
   now = before + length passed.more
@@ -82,8 +89,12 @@ module _ (window : List ℕ) (is_end : Bool) (before : ℕ) (old new : Numbered)
   abbrev behind : List ℕ
   behind = drop (at + 1) window
 
+  -- how many there are by now
+  so_many : length new ≡ length old + length passed.more
+  so_many = ap length passed.items ∙ length-append old passed.offsets ∙ ap (λ (k : ℕ). length old + k) passed.as_many
+
   counted : (k : ℕ) → k + length old ≡ before + length new → k ≡ now
-  counted k k_is = omega (arith, k_is, ap length passed.items, length-append old passed.more)
+  counted k k_is = omega (arith, k_is, so_many)
 
   at_gate : (b : ℕ) → at < length window → get_or window at 0 ≡ b → drop at window ≡ b ∷ behind
   at_gate b lt is = drop_more window at 0 lt ∙ ap (λ (x : ℕ). x ∷ behind) is
@@ -93,11 +104,13 @@ module _ (window : List ℕ) (is_end : Bool) (before : ℕ) (old new : Numbered)
   from_gate lt opened rest = passed.walk rest ∙ ap (λ (l : List ℕ). extended passed.more at (appended_walk 0 now (l ++ rest))) (at_gate 1 lt opened)
 
   -- a gate that isn't open
-  pub ends : at < length window → (get_or window at 0 ≡ 1 → ⊥) → ReadsWindow window is_end before old new (Gate at)
+  pub ends : at < length window → (get_or window at 0 ≡ 1 → ⊥) → ReadsWindow window is_end before place old new (Gate at)
   ends lt shut =
       let b = get_or window at 0 in
       record {
         more = passed.more;
+        offsets = passed.offsets;
+        as_many = passed.as_many;
         items = passed.items;
         within = passed.within;
         walk = λ rest may.
@@ -106,22 +119,26 @@ module _ (window : List ℕ) (is_end : Bool) (before : ℕ) (old new : Numbered)
             ∙ ap (extended passed.more at) (walk_shut now b (behind ++ rest) (ne_eqb b 1 shut))
             ∙ ap (λ (l : Numbered). Ends l (at + 0)) (append-nil passed.more)
             ∙ ap (λ (k : ℕ). Ends passed.more k) (omega arith);
+        laid = passed.laid;
         all = tt;
       }
 
   -- the end
-  pub ends_all : length window ≤ at → ReadsWindow window is_end before old new (Rest at)
+  pub ends_all : length window ≤ at → ReadsWindow window is_end before place old new (Rest at)
   ends_all le = record {
     more = passed.more;
+    offsets = passed.offsets;
+    as_many = passed.as_many;
     items = passed.items;
     within = passed.within;
     walk = λ rest may. passed.walk rest ∙ ap (λ (l : List ℕ). extended passed.more at (appended_walk 0 now l)) (sym (drop-append-le at window rest passed.within));
+    laid = passed.laid;
     all = λ is. le;
   }
 
-  module _ (lt : at < length window) (opened : get_or window at 0 ≡ 1) (k : ℕ) (k_is : k + length old ≡ before + length new) (next : Numbered) where
+  module _ (lt : at < length window) (opened : get_or window at 0 ≡ 1) (k : ℕ) (k_is : k + length old ≡ before + length new) (next : Offset_list) where
     -- a frame
-    pub passed_frame : (size : ℕ) → ReadsFrame behind is_end k new next (Is_whole size) → Passed window before old next (at + (1 + size))
+    pub passed_frame : (size : ℕ) → ReadsFrame behind is_end k (place + at + 1) new next (Is_whole size) → Passed window before place old next (at + (1 + size))
     passed_frame size r =
         let es = r.more in
         let long = r.is.1 in
@@ -129,7 +146,9 @@ module _ (window : List ℕ) (is_end : Bool) (before : ℕ) (old new : Numbered)
         λ rest. subst (λ (j : ℕ). frame is_next frame_room j (behind ++ rest) ≡ Framed es size) (counted k k_is) (r.is.0 rest) in
         record {
           more = passed.more ++ es;
-          items = r.items ∙ ap (λ (l : Numbered). l ++ es) passed.items ∙ append_assoc old passed.more es;
+          offsets = passed.offsets ++ r.offsets;
+          as_many = omega (arith, length-append passed.offsets r.offsets, length-append passed.more es, passed.as_many, r.as_many);
+          items = r.items ∙ ap (λ (l : Offset_list). l ++ r.offsets) passed.items ∙ append_assoc old passed.offsets r.offsets;
           within = omega (arith, long, length-drop (at + 1) window, lt);
           walk = λ rest.
               from_gate lt opened rest
@@ -139,47 +158,54 @@ module _ (window : List ℕ) (is_end : Bool) (before : ℕ) (old new : Numbered)
               (drop-append-le size behind rest long ∙ ap (λ (l : List ℕ). l ++ rest) (drop-drop size (at + 1) window ∙ ap (λ (j : ℕ). drop j window) (omega arith)))
               ∙ ap (λ (j : ℕ). extended (passed.more ++ es) (at + suc size) (appended_walk 0 j (drop (at + (1 + size)) window ++ rest))) (omega (arith, length-append passed.more es))
               ∙ ap (λ (j : ℕ). extended (passed.more ++ es) j (appended_walk 0 (before + length (passed.more ++ es)) (drop (at + (1 + size)) window ++ rest))) (omega arith);
+          laid = in_frame window before place (length old) passed.more passed.offsets at passed.laid k (length new) size es r.offsets lt k_is r.is.4;
         }
 
-    pub passed_measured : (size : ℕ) → ReadsFrame behind is_end k new next (Is_whole size) → at + frame_limit * length old ≤ frame_limit * length new → at + (1 + size) + frame_limit * length old ≤ frame_limit * length next
+    pub passed_measured : (size : ℕ) → ReadsFrame behind is_end k (place + at + 1) new next (Is_whole size) → at + frame_limit * length old ≤ frame_limit * length new → at + (1 + size) + frame_limit * length old ≤ frame_limit * length next
     passed_measured size r so_far =
         let short = r.is.2 in
         let some = r.is.3 in
-        let count : length next ≡ length new + length r.more = ap length r.items ∙ length-append new r.more in
+        let count : length next ≡ length new + length r.more = ap length r.items ∙ length-append new r.offsets ∙ ap (λ (j : ℕ). length new + j) r.as_many in
         omega (arith, short, some, count, so_far)
 
     -- too little of a frame
-    pub rests : ReadsFrame behind is_end k new next Is_cut → ReadsWindow window is_end before old next (Rest at)
+    pub rests : ReadsFrame behind is_end k (place + at + 1) new next Is_cut → ReadsWindow window is_end before place old next (Rest at)
     rests r =
-        let same : next ≡ old ++ passed.more = r.items ∙ ap (λ (l : Numbered). new ++ l) r.is.0 ∙ append-nil new ∙ passed.items in
+        let same : next ≡ old ++ passed.offsets = r.items ∙ ap (λ (l : Offset_list). new ++ l) r.is.1 ∙ append-nil new ∙ passed.items in
         record {
           more = passed.more;
+          offsets = passed.offsets;
+          as_many = passed.as_many;
           items = same;
           within = passed.within;
           walk = λ rest may. passed.walk rest ∙ ap (λ (l : List ℕ). extended passed.more at (appended_walk 0 now l)) (sym (drop-append-le at window rest passed.within));
-          all = λ is. absurd (cc (is, r.is.1));
+          laid = passed.laid;
+          all = λ is. absurd (cc (is, r.is.2));
         }
 
-    pub rests_measured : ReadsFrame behind is_end k new next Is_cut → at + frame_limit * length old ≤ frame_limit * length new → at + frame_limit * length old ≤ frame_limit * length next
-    rests_measured r so_far = omega (arith, so_far, ap length r.items, length-append new r.more)
+    pub rests_measured : ReadsFrame behind is_end k (place + at + 1) new next Is_cut → at + frame_limit * length old ≤ frame_limit * length new → at + frame_limit * length old ≤ frame_limit * length next
+    rests_measured r so_far = omega (arith, so_far, ap length r.items, length-append new r.offsets)
 
     -- a frame that isn't right
-    pub breaks : (place : ℕ) → ReadsFrame behind is_end k new next (Is_no_frame place) → ReadsWindow window is_end before old next (Is_damaged (at + 1 + place))
-    breaks place r = record {
+    pub breaks : (damage : ℕ) → ReadsFrame behind is_end k (place + at + 1) new next (Is_no_frame damage) → ReadsWindow window is_end before place old next (Is_damaged (at + 1 + damage))
+    breaks damage r = record {
       more = passed.more ++ r.more;
-      items = r.items ∙ ap (λ (l : Numbered). l ++ r.more) passed.items ∙ append_assoc old passed.more r.more;
+      offsets = passed.offsets ++ r.offsets;
+      as_many = omega (arith, length-append passed.offsets r.offsets, length-append passed.more r.more, passed.as_many, r.as_many);
+      items = r.items ∙ ap (λ (l : Offset_list). l ++ r.offsets) passed.items ∙ append_assoc old passed.offsets r.offsets;
       within = (let low = r.is.1 in omega (arith, low, length-drop (at + 1) window, lt));
       walk = λ rest may.
-          let crooked : frame is_next frame_room now (behind ++ rest) ≡ Crooked place = subst (λ (j : ℕ). frame is_next frame_room j (behind ++ rest) ≡ Crooked place) (counted k k_is) (r.is.0 rest may) in
+          let crooked : frame is_next frame_room now (behind ++ rest) ≡ Crooked damage = subst (λ (j : ℕ). frame is_next frame_room j (behind ++ rest) ≡ Crooked damage) (counted k k_is) (r.is.0 rest may) in
           from_gate lt opened rest
-          ∙ ap (extended passed.more at) (no_frame now place (behind ++ rest) crooked)
+          ∙ ap (extended passed.more at) (no_frame now damage (behind ++ rest) crooked)
           ∙ ap (λ (j : ℕ). Fails j) (omega arith);
+      laid = tt;
       all = tt;
     }
 
 -- what was read of the window behind a gate
-pub frame_at : (window : List ℕ) (is_end : Bool) (at k : ℕ) (old new : Numbered) (a b : FrameRead) → at < length window → a ≡ b
-    → ReadsFrame (take (length window - (at + 1)) (drop (at + 1) window)) is_end k old new a → ReadsFrame (drop (at + 1) window) is_end k old new b
-frame_at window is_end at k old new a b lt is read =
-    subst (λ (l : List ℕ). ReadsFrame l is_end k old new b) (take_all (length window - (at + 1)) (drop (at + 1) window) (omega (arith, length-drop (at + 1) window)))
-    (subst (λ (x : FrameRead). ReadsFrame (take (length window - (at + 1)) (drop (at + 1) window)) is_end k old new x) is read)
+pub frame_at : (window : List ℕ) (is_end : Bool) (at k place : ℕ) (old new : Offset_list) (a b : FrameRead) → at < length window → a ≡ b
+    → ReadsFrame (take (length window - (at + 1)) (drop (at + 1) window)) is_end k place old new a → ReadsFrame (drop (at + 1) window) is_end k place old new b
+frame_at window is_end at k place old new a b lt is read =
+    subst (λ (l : List ℕ). ReadsFrame l is_end k place old new b) (take_all (length window - (at + 1)) (drop (at + 1) window) (omega (arith, length-drop (at + 1) window)))
+    (subst (λ (x : FrameRead). ReadsFrame (take (length window - (at + 1)) (drop (at + 1) window)) is_end k place old new x) is read)

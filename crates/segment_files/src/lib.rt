@@ -2,6 +2,7 @@
 #![tactic(auto)]
 
 mod descriptor;
+mod entries;
 mod frames;
 mod gates;
 mod numbers;
@@ -11,6 +12,7 @@ mod tails;
 mod windows;
 
 pub use descriptor::Descriptor;
+pub use entries::read_entry;
 pub use frames::{FRAME_ROOM, frame};
 pub use gates::{append_frame, open_gate};
 pub use reading::{FileFault, Found, Part, scan};

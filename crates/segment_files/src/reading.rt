@@ -1,17 +1,18 @@
 // What a file holds, read from its start to its first gate that isn't open.
-ghost use Rattle.std.specs.Prelude.{◌≡◌, ◌+◌, ◌-◌, ◌<◌, ◌≤◌, ℕ, List, [], length, drop, IsTrue, IsErrOf, IfOk, IfErr, OnOk};
+ghost use Rattle.std.specs.Prelude.{◌≡◌, ◌+◌, ◌-◌, ◌<◌, ◌≤◌, ◌^◌, ℕ, List, [], length, IsTrue, IsErrOf, IfOk, IfErr, OnOk};
 ghost use Rattle.disk_model.specs.Image.{IsFileId, place};
 ghost use Rattle.disk_model.specs.View.{LeavesAt, MayHold, Reads, IsListed};
 ghost use Rattle.disk_model.specs.Calls.{Looks, Stays};
 ghost use Rattle.host_types.specs.Limits.{last_limit};
 ghost use Rattle.segment_files.specs.Parse.{Damaged, parse};
 ghost use Rattle.segment_files.specs.declared.reading.FileFault.TheVariants.{NoMemory};
-ghost use Rattle.segment_files.specs.Contents.{AreNumbered, AreRead, HandsOver, HasNumbered, HasFew, IsBounded, IsLong, IsMeasured, HasFileCause, HasFrames, IsFound, IsHead, IsRead, IsNoDamage, IsWithin, ReadsPiece, file_fault};
+ghost use Rattle.segment_files.specs.Contents.{AreBelow, FramesBelow, HasFew, HasFileCause, HasFrames, IfRight, IsBounded, IsFound, IsHead, IsLong, IsMeasured, IsNoDamage, IsRead, IsWithin, ReadsPiece, file_fault};
 
 use crate::descriptor::Descriptor;
 use crate::windows::{Walked, read_window};
 use disk_model::{Disk, DiskFault, FileId};
-use host_types::{Entry, Index, LogName, NoMemory as OutOfMemory};
+use host_types::{Index, LogName, NoMemory as OutOfMemory};
+use offset_index::Offsets;
 use std::alloc::{AllocError, Global};
 
 /// Why a file can't be read.
@@ -26,19 +27,19 @@ pub enum FileFault {
 }
 
 /// A file that is part of a log.
-#[derive(Clone, Copy, Debug, PartialEq, Eq)]
+#[derive(Drop)]
 pub struct Part {
     pub descriptor: Descriptor,
     /// The index of its last entry, or one less than its base where it has none.
     pub last: Index,
-    /// How many entries it has.
-    pub entries: u64,
     /// The place of its first gate that isn't open. The next frame goes there.
     pub gate: u64,
+    /// Where each of its entries stands.
+    pub offsets: Offsets,
 }
 
 /// What a file is.
-#[derive(Clone, Copy, Debug, PartialEq, Eq)]
+#[derive(Drop)]
 pub enum Found {
     /// Its gate isn't open: it stands for nothing.
     Closed,
@@ -51,7 +52,7 @@ enum Contents {
     Closed,
     Open {
         descriptor: Descriptor,
-        entries: Vec<(Index, Entry)>,
+        offsets: Offsets,
         gate: u64,
     },
 }
@@ -128,22 +129,23 @@ fn read_piece<D: Disk>(
     at: u64,
     end: u64,
     buffer: &mut [u8],
-    entries: &mut Vec<(Index, Entry)>,
+    offsets: &mut Offsets,
 ) -> Result<Walked, FileFault>
     requires id { IsFileId id }
     requires listed { IsTrue D.tells → IsListed (D.view disk.old) (place name.now id) }
     requires within { at < end }
     requires end { IsTrue D.tells → (bytes : List ℕ) → Reads (D.view disk.old) (place name.now id) bytes → end ≡ length bytes }
     requires buffer { 1 ≤ length buffer.old }
-    requires few { length entries.old.items ≤ last_limit }
-    ensures few { IfOk result (λ walked. length entries.new.items ≤ last_limit) }
+    requires few { length offsets.old.items ≤ last_limit }
+    requires below { AreBelow offsets.old.items at }
+    ensures few { IfOk result (λ walked. length offsets.new.items ≤ last_limit) }
     ensures within { IfOk result (IsWithin (end - at)) }
     ensures longer { IfOk result (λ walked. walked ≡ Walked.Rest 0 → length buffer.old < end - at) }
-    ensures measured { IfOk result (IsMeasured (length entries.old.items) (length entries.new.items)) }
-    ensures numbered { AreNumbered (id.base - 1) entries.old.items → IfOk result (λ _. AreNumbered (id.base - 1) entries.new.items) }
+    ensures measured { IfOk result (IsMeasured (length offsets.old.items) (length offsets.new.items)) }
+    ensures below { IfOk result (IfRight (λ behind. AreBelow offsets.new.items (at + behind))) }
     ensures no_damage { IfErr result IsNoDamage }
     ensures reads { IsTrue D.tells → (bytes : List ℕ) → Reads (D.view disk.old) (place name.now id) bytes
-        → IfOk result (ReadsPiece (drop at bytes) (id.base - 1 + length entries.old.items) entries.old.items entries.new.items) }
+        → IfOk result (ReadsPiece bytes (id.base - 1 + length offsets.old.items) at offsets.old.items offsets.new.items) }
     ensures told { IsTrue D.tells → Looks (D.view disk.old) (D.view disk.new) }
     ensures cause { HasFileCause (D.faults disk.old) (D.faults disk.new) result }
 {
@@ -153,7 +155,8 @@ fn read_piece<D: Disk>(
     if count < want {
         return Ok(Walked::Damaged { at: count });
     }
-    let walked = read_window(alloc, id.base, window, want as u64 == end - at, entries)?;
+    let is_end = want as u64 == end - at;
+    let walked = read_window(alloc, id.base, at, window, is_end, offsets)?;
     Ok(walked)
 }
 
@@ -176,25 +179,25 @@ fn read_frames<D: Disk>(
     id: FileId,
     end: u64,
     buffer: &mut Vec<u8>,
-    entries: &mut Vec<(Index, Entry)>,
+    offsets: &mut Offsets,
 ) -> Result<Frames, FileFault>
     requires id { IsFileId id }
     requires listed { IsTrue D.tells → IsListed (D.view disk.old) (place name.now id) }
     requires end { IsTrue D.tells → (bytes : List ℕ) → Reads (D.view disk.old) (place name.now id) bytes → end ≡ length bytes }
     requires buffer { 1 ≤ length buffer.old.items }
-    requires none { entries.old.items ≡ [] }
-    ensures few { IfOk result (λ frames. length entries.new.items ≤ last_limit) }
-    ensures measured { IfOk result (IsLong (length entries.new.items)) }
-    ensures numbered { IfOk result (λ _. AreNumbered (id.base - 1) entries.new.items) }
+    requires none { offsets.old.items ≡ [] }
+    ensures few { IfOk result (λ frames. length offsets.new.items ≤ last_limit) }
+    ensures measured { IfOk result (IsLong (length offsets.new.items)) }
+    ensures below { IfOk result (FramesBelow offsets.new.items) }
     ensures frames { IsTrue D.tells → (bytes : List ℕ) → Reads (D.view disk.old) (place name.now id) bytes
-        → IfOk result (HasFrames bytes (id.base - 1) entries.new.items) }
+        → IfOk result (HasFrames bytes id.base offsets.new.items) }
     ensures no_damage { IfErr result IsNoDamage }
     ensures told { IsTrue D.tells → Looks (D.view disk.old) (D.view disk.new) }
     ensures cause { HasFileCause (D.faults disk.old) (D.faults disk.new) result }
 {
     let mut at = 64;
     while at < end {
-        match read_piece(alloc, disk, name, id, at, end, buffer, entries)? {
+        match read_piece(alloc, disk, name, id, at, end, buffer, offsets)? {
             Walked::Gate { at: behind } => {
                 return Ok(Frames::End {
                     gate: at + behind as u64,
@@ -228,20 +231,19 @@ fn read_part<D: Disk>(
     requires id { IsFileId id }
     requires listed { IsTrue D.tells → IsListed (D.view disk.old) (place name.now id) }
     ensures few { IfOk result HasFew }
-    ensures numbered { IfOk result (HasNumbered id.base) }
     ensures found { IsTrue D.tells → (bytes : List ℕ) → Reads (D.view disk.old) (place name.now id) bytes
-        → IsHead id bytes (Ok (Some descriptor)) → IsRead id (parse id bytes) result }
+        → IsHead id bytes (Ok (Some descriptor)) → IsRead id bytes result }
     ensures told { IsTrue D.tells → Looks (D.view disk.old) (D.view disk.new) }
     ensures cause { HasFileCause (D.faults disk.old) (D.faults disk.new) result }
 {
     let end = disk.length(name, id)?;
     let mut buffer = vec![in alloc; 0u8; PIECE]?;
-    let mut entries = Vec::new(alloc);
-    match read_frames(alloc, disk, name, id, end, &mut buffer, &mut entries)? {
+    let mut offsets = Offsets::new(alloc);
+    match read_frames(alloc, disk, name, id, end, &mut buffer, &mut offsets)? {
         Frames::Damaged { at } => Err(FileFault::Damaged { at }),
         Frames::End { gate } => Ok(Contents::Open {
             descriptor,
-            entries,
+            offsets,
             gate,
         }),
     }
@@ -257,8 +259,7 @@ fn read_file<D: Disk>(
     requires id { IsFileId id }
     requires listed { IsTrue D.tells → IsListed (D.view disk.old) (place name.now id) }
     ensures few { IfOk result HasFew }
-    ensures numbered { IfOk result (HasNumbered id.base) }
-    ensures found { IsTrue D.tells → (bytes : List ℕ) → Reads (D.view disk.old) (place name.now id) bytes → IsRead id (parse id bytes) result }
+    ensures found { IsTrue D.tells → (bytes : List ℕ) → Reads (D.view disk.old) (place name.now id) bytes → IsRead id bytes result }
     ensures told { IsTrue D.tells → Looks (D.view disk.old) (D.view disk.new) }
     ensures cause { HasFileCause (D.faults disk.old) (D.faults disk.new) result }
 {
@@ -268,23 +269,18 @@ fn read_file<D: Disk>(
     }
 }
 
-/// Reads a file, and says what it is. It reads in pieces, each byte once, and decodes each entry once: those of a part are
-/// put into `entries`, in order, in the place of what stood there. A file whose gate isn't open leaves `entries` as before.
+/// Reads a file, and says what it is. It reads in pieces, each byte once, and keeps of each entry where it stands, in two
+/// words: no entry is kept.
 pub fn scan<D: Disk>(
     alloc: Global,
     disk: &mut D,
     name: &LogName,
     id: FileId,
-    entries: &mut Vec<(Index, Entry)>,
 ) -> Result<Found, FileFault>
     requires id { IsFileId id }
     requires listed { IsTrue D.tells → IsListed (D.view disk.old) (place name.now id) }
     ensures found { IsTrue D.tells → (bytes : List ℕ) → Reads (D.view disk.old) (place name.now id) bytes
-        → IfOk result (λ found. IsFound found (parse id bytes)) }
-    ensures read { IsTrue D.tells → (bytes : List ℕ) → Reads (D.view disk.old) (place name.now id) bytes
-        → OnOk result (AreRead (parse id bytes) entries.new.items) }
-    // Each entry is as one may be, whatever the disk tells.
-    ensures handed { IfOk result (λ found. HandsOver id.base found entries.old.items entries.new.items) }
+        → IfOk result (λ found. IsFound bytes found (parse id bytes)) }
     ensures damaged { IsTrue D.tells → (bytes : List ℕ) → Reads (D.view disk.old) (place name.now id) bytes
         → (at : ℕ) → IsErrOf result (FileFault.Damaged at) → parse id bytes ≡ Damaged at }
     ensures stays { IsTrue D.tells → Stays (D.view disk.old) (D.view disk.new) }
@@ -296,17 +292,13 @@ pub fn scan<D: Disk>(
         Contents::Closed => Ok(Found::Closed),
         Contents::Open {
             descriptor,
-            entries: found,
+            offsets,
             gate,
-        } => {
-            let count = found.len() as u64;
-            *entries = found;
-            Ok(Found::Part(Part {
-                descriptor,
-                last: id.base - 1 + count,
-                entries: count,
-                gate,
-            }))
-        }
+        } => Ok(Found::Part(Part {
+            descriptor,
+            last: id.base - 1 + offsets.count() as u64,
+            gate,
+            offsets,
+        })),
     }
 }

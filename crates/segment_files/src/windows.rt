@@ -1,14 +1,15 @@
 // Reads frames: an open gate, a length, and so many bytes of entries.
-ghost use Rattle.std.specs.Prelude.{ℕ, ◌≡◌, ◌++◌, ◌&&◌, ◌+◌, ◌-◌, ◌<◌, ◌≤◌, ◌^◌, nat_lt, not, if◌then◌else◌, length, IfOk};
+ghost use Rattle.std.specs.Prelude.{◌≡◌, ◌&&◌, ◌+◌, ◌-◌, ◌<◌, ◌≤◌, ◌^◌, nat_lt, not, if◌then◌else◌, length, IfOk};
 ghost use Rattle.host_types.specs.Limits.{last_limit};
 ghost use Rattle.disk_model.specs.Image.{id_limit};
 ghost use Rattle.segment_files.specs.Parse.{body_limit, is_misplaced, is_next};
-ghost use Rattle.segment_files.specs.Contents.{AreNumbered, IsMeasured, ReadsBody, ReadsFrame, ReadsNext, ReadsWindow};
+ghost use Rattle.segment_files.specs.Contents.{AreBelow, EndsBelow, EntryBelow, FrameBelow, IfRight, IsMeasured, ReadsBody, ReadsFrame, ReadsNext, ReadsWindow};
 
 use crate::frames::{BODY_LIMIT, FRAME_ROOM};
 use crate::numbers::{u32_at, u64_at};
 use entry_codec::{ReadFault, read};
-use host_types::{Entry, Index, NoMemory};
+use host_types::{Index, NoMemory};
+use offset_index::{NoMemory as NoRoom, Offsets};
 use std::alloc::Global;
 
 /// The least length of a body, that of one tick.
@@ -64,43 +65,52 @@ fn begins_elsewhere(before: Index, bytes: &[u8]) -> bool
     bytes.len() >= 8 && !may_follow(before, u64_at(bytes, 0))
 }
 
-/// Reads the entry that these bytes begin with, and puts it behind the others, where the log may have it behind that index.
+/// Reads the entry that these bytes begin with, which stand at `place` of their file, and notes where it stands, if the log may
+/// have it behind that index.
 fn read_next(
     alloc: Global,
     before: Index,
+    place: u64,
     bytes: &[u8],
-    entries: &mut Vec<(Index, Entry)>,
+    offsets: &mut Offsets,
 ) -> Result<EntryRead, NoMemory>
-    requires { before + 1 < 2 ^ 64 }
-    ensures reads { IfOk result (ReadsNext bytes.now before entries.old.items entries.new.items) }
-    ensures numbered { (first : ℕ) → before ≡ first + length entries.old.items → AreNumbered first entries.old.items → IfOk result (λ _. AreNumbered first entries.new.items) }
+    requires room { before + 1 < 2 ^ 64 }
+    requires below { AreBelow offsets.old.items place }
+    ensures reads { IfOk result (ReadsNext bytes.now before place offsets.old.items offsets.new.items) }
+    ensures below { IfOk result (EntryBelow place offsets.new.items) }
 {
     if begins_elsewhere(before, bytes) {
         return Ok(EntryRead::Damaged { at: 0 });
     }
-    let (index, entry, size) = match read(alloc, bytes) {
+    let (_, entry, size) = match read(alloc, bytes) {
         Ok(found) => found,
         Err(ReadFault::Bad { at }) => return Ok(EntryRead::Damaged { at }),
         Err(ReadFault::NoMemory) => return Err(NoMemory),
     };
-    entries.push((index, entry))?;
-    Ok(EntryRead::Whole { size })
+    drop(entry);
+    match offsets.push(offsets.count() as u64, place) {
+        Ok(()) => Ok(EntryRead::Whole { size }),
+        Err(NoRoom) => Err(NoMemory),
+    }
 }
 
-/// Reads the entries of a body behind those before it, which end at an index. Answers where the body is damaged, unless it is
-/// entries and nothing else, each at the next index.
+/// Reads the entries of a body, which stands at `place` of its file, behind those before it, which end at an index. Answers
+/// where the body is damaged, unless it is entries and nothing else, each at the next index.
 fn read_body(
     alloc: Global,
     before: Index,
+    place: u64,
     body: &[u8],
-    entries: &mut Vec<(Index, Entry)>,
+    offsets: &mut Offsets,
 ) -> Result<Option<usize>, NoMemory>
-    requires counted { length entries.old.items ≤ before }
+    requires counted { length offsets.old.items ≤ before }
     requires room { before ≤ id_limit + last_limit }
-    requires few { length entries.old.items ≤ last_limit }
-    ensures few { IfOk result (λ damage. length entries.new.items ≤ last_limit) }
-    ensures reads { IfOk result (ReadsBody body.now before entries.old.items entries.new.items) }
-    ensures numbered { (first : ℕ) → before ≡ first + length entries.old.items → AreNumbered first entries.old.items → IfOk result (λ _. AreNumbered first entries.new.items) }
+    requires few { length offsets.old.items ≤ last_limit }
+    requires below { AreBelow offsets.old.items place }
+    requires end { place + length body.now < 2 ^ 64 }
+    ensures few { IfOk result (λ damage. length offsets.new.items ≤ last_limit) }
+    ensures reads { IfOk result (ReadsBody body.now before place offsets.old.items offsets.new.items) }
+    ensures below { IfOk result (EndsBelow (place + length body.now) offsets.new.items) }
 {
     let mut at = 0;
     let mut count = 0;
@@ -108,9 +118,10 @@ fn read_body(
         if count == FRAME_ROOM {
             return Ok(Some(at));
         }
-        match read_next(alloc, before + count as u64, &body[at..], entries)? {
+        let before = before + count as u64;
+        match read_next(alloc, before, place + at as u64, &body[at..], offsets)? {
             EntryRead::Whole { size } => at += size,
-            EntryRead::Damaged { at: place } => return Ok(Some(at + place)),
+            EntryRead::Damaged { at: behind } => return Ok(Some(at + behind)),
         }
         count += 1;
     }
@@ -147,21 +158,24 @@ fn right_frame(size: usize, long: usize) -> FrameRead
     }
 }
 
-/// Reads the frame that stands behind an open gate, behind the entries that end at this index. Where the file ends with these
-/// bytes, what is there of a frame is read, and the frame is damaged.
+/// Reads the frame that stands at `place` of its file, behind an open gate, behind the entries that end at this index. Where
+/// the file ends with these bytes, what is there of a frame is read, and the frame is damaged.
 fn read_frame(
     alloc: Global,
     before: Index,
+    place: u64,
     behind: &[u8],
     is_end: bool,
-    entries: &mut Vec<(Index, Entry)>,
+    offsets: &mut Offsets,
 ) -> Result<FrameRead, NoMemory>
-    requires counted { length entries.old.items ≤ before }
+    requires counted { length offsets.old.items ≤ before }
     requires room { before ≤ id_limit + last_limit }
-    requires few { length entries.old.items ≤ last_limit }
-    ensures few { IfOk result (λ read. length entries.new.items ≤ last_limit) }
-    ensures reads { IfOk result (ReadsFrame behind.now is_end before entries.old.items entries.new.items) }
-    ensures numbered { (first : ℕ) → before ≡ first + length entries.old.items → AreNumbered first entries.old.items → IfOk result (λ _. AreNumbered first entries.new.items) }
+    requires few { length offsets.old.items ≤ last_limit }
+    requires below { AreBelow offsets.old.items place }
+    requires end { place + length behind.now < 2 ^ 64 }
+    ensures few { IfOk result (λ read. length offsets.new.items ≤ last_limit) }
+    ensures reads { IfOk result (ReadsFrame behind.now is_end before place offsets.old.items offsets.new.items) }
+    ensures below { IfOk result (FrameBelow place offsets.new.items) }
 {
     if behind.len() < 4 {
         return Ok(cut_frame(behind.len(), is_end));
@@ -174,36 +188,40 @@ fn read_frame(
     if wants_more(there, size, is_end) {
         return Ok(FrameRead::Cut);
     }
-    match read_body(alloc, before, &behind[4..4 + there], entries)? {
+    match read_body(alloc, before, place + 4, &behind[4..4 + there], offsets)? {
         Some(at) => Ok(FrameRead::Damaged { at: 4 + at }),
         None => Ok(right_frame(size, behind.len())),
     }
 }
 
-/// Reads all whole frames of a window, which begins with a gate, behind the entries of the file that are read already. The
-/// file may end with the window.
+/// Reads all whole frames of a window, which begins with a gate at `place` of its file, and notes where their entries stand,
+/// behind those that were read already. The file may end with the window.
 pub(crate) fn read_window(
     alloc: Global,
     base: Index,
+    place: u64,
     window: &[u8],
     is_end: bool,
-    entries: &mut Vec<(Index, Entry)>,
+    offsets: &mut Offsets,
 ) -> Result<Walked, NoMemory>
     requires base_first { 1 ≤ base }
     requires base_last { base ≤ id_limit }
-    requires few { length entries.old.items ≤ last_limit }
-    ensures few { IfOk result (λ walked. length entries.new.items ≤ last_limit) }
-    ensures measured { IfOk result (IsMeasured (length entries.old.items) (length entries.new.items)) }
-    ensures reads { IfOk result (λ walked. ReadsWindow window.now is_end (base - 1 + length entries.old.items) entries.old.items entries.new.items walked) }
-    ensures numbered { AreNumbered (base - 1) entries.old.items → IfOk result (λ _. AreNumbered (base - 1) entries.new.items) }
+    requires few { length offsets.old.items ≤ last_limit }
+    requires below { AreBelow offsets.old.items place }
+    requires end { place + length window.now < 2 ^ 64 }
+    ensures few { IfOk result (λ walked. length offsets.new.items ≤ last_limit) }
+    ensures measured { IfOk result (IsMeasured (length offsets.old.items) (length offsets.new.items)) }
+    ensures reads { IfOk result (λ walked. ReadsWindow window.now is_end (base - 1 + length offsets.old.items) place offsets.old.items offsets.new.items walked) }
+    ensures below { IfOk result (IfRight (λ at. AreBelow offsets.new.items (place + at))) }
 {
     let mut at = 0;
     while at < window.len() {
         if window[at] != 1 {
             return Ok(Walked::Gate { at });
         }
-        let before = base - 1 + entries.len() as u64;
-        match read_frame(alloc, before, &window[at + 1..], is_end, entries)? {
+        let before = base - 1 + offsets.count() as u64;
+        let behind = place + at as u64 + 1;
+        match read_frame(alloc, before, behind, &window[at + 1..], is_end, offsets)? {
             FrameRead::Whole { size } => at += 1 + size,
             FrameRead::Cut => return Ok(Walked::Rest { at }),
             FrameRead::Damaged { at: behind } => return Ok(Walked::Damaged {

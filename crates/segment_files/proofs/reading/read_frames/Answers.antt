@@ -1,7 +1,8 @@
-use Rattle.std.proofs.Common.{◌≡◌, ◌-◌, ◌+◌, ℕ, length, drop, sym, ap, subst, ◌++◌, arith, length-take, length-append}
+use Rattle.std.proofs.Common.{◌≡◌, ◌<◌, ◌-◌, ◌+◌, ℕ, length, drop, sym, ap, subst, ◌++◌, arith, length-take, length-append}
+use Rattle.std.proofs.lemmas.List.Elements.{All-nil}
 use Rattle.disk_model.specs.Image.{place}
 use Rattle.segment_files.specs.declared.windows.Walked.{Walked}
-use Rattle.segment_files.specs.Contents.{AreNumbered, IsMeasured, ReadsPiece}
+use Rattle.segment_files.specs.Contents.{AreBelow, IfRight, IsMeasured, Offset_list, ReadsPiece}
 use Rattle.segment_files.proofs.Looking.{looks_not, looks_then, reads_still}
 use Rattle.segment_files.proofs.Scanning.{ScannedTo, scanned_none, scanned_end, scanned_bad, scanned_gate, scanned_more}
 use Rattle.segment_files.proofs.reading.read_frames.Goals as goal
@@ -11,38 +12,38 @@ loop-at-init g c = record {
   looks = λ t. looks_not (g.D.Disk.view c.args.disk.now) (g.met.D.Disk.sound c.args.disk.now t);
   faults = omega arith;
   some = c.requires.buffer;
-  numbered = subst (AreNumbered (c.args.id.base - 1)) (sym c.requires.none) tt;
+  below = subst (λ (l : Offset_list). AreBelow l 64) (sym c.requires.none) (All-nil (λ (p : ℕ × ℕ). (p.0 < 0) × (p.1 < 64)));
   few = omega (arith, ap length c.requires.none);
   measured = omega (arith, ap length c.requires.none);
-  scanned = λ t bytes reads. scanned_none bytes (c.args.id.base - 1) c.args.entries.now.items c.requires.none;
+  scanned = λ t bytes reads. scanned_none bytes c.args.id.base c.args.offsets.now.items c.requires.none;
 }
 
 pub returns-in-Gate-clause-frames : goal.returns-in-Gate-clause-frames
 returns-in-Gate-clause-frames g c = λ t bytes reads.
     let view = g.D.Disk.view in
-    let before = c.args.id.base - 1 in
-    let old = c.loop-at.entries.items in
-    let new = c.read_piece.new.entries.items in
+    let base = c.args.id.base in
+    let old = c.loop-at.offsets.items in
+    let new = c.read_piece.new.offsets.items in
     let now = reads_still (view c.args.disk.now) (view c.loop-at.disk) (place c.args.name.now c.args.id) bytes (c.loop-at.invariant.looks t) reads in
-    scanned_gate bytes before old new c.loop-at.at (c.loop-at.invariant.scanned t bytes reads) c.in-Gate.behind
-    (subst (λ (w : Walked). ReadsPiece (drop c.loop-at.at bytes) (before + length old) old new w) c.in-Gate.is (c.in_ok-behind.ensures.reads t bytes now))
+    scanned_gate bytes base c.requires.id.base_first old new c.loop-at.at (c.loop-at.invariant.scanned t bytes reads) c.in-Gate.behind
+    (subst (λ (w : Walked). ReadsPiece bytes (base - 1 + length old) c.loop-at.at old new w) c.in-Gate.is (c.in_ok-behind.ensures.reads t bytes now))
 
 pub returns-in-Damaged-clause-frames : goal.returns-in-Damaged-clause-frames
 returns-in-Damaged-clause-frames g c = λ t bytes reads.
     let view = g.D.Disk.view in
-    let before = c.args.id.base - 1 in
-    let old = c.loop-at.entries.items in
-    let new = c.read_piece.new.entries.items in
+    let base = c.args.id.base in
+    let old = c.loop-at.offsets.items in
+    let new = c.read_piece.new.offsets.items in
     let now = reads_still (view c.args.disk.now) (view c.loop-at.disk) (place c.args.name.now c.args.id) bytes (c.loop-at.invariant.looks t) reads in
-    scanned_bad bytes before old new c.loop-at.at (c.loop-at.invariant.scanned t bytes reads) c.in-Damaged.behind
-    (subst (λ (w : Walked). ReadsPiece (drop c.loop-at.at bytes) (before + length old) old new w) c.in-Damaged.is (c.in_ok-behind.ensures.reads t bytes now))
+    scanned_bad bytes base c.requires.id.base_first old new c.loop-at.at (c.loop-at.invariant.scanned t bytes reads) c.in-Damaged.behind
+    (subst (λ (w : Walked). ReadsPiece bytes (base - 1 + length old) c.loop-at.at old new w) c.in-Damaged.is (c.in_ok-behind.ensures.reads t bytes now))
 
 pub loop-at-preserved-then-behind-gt0 : goal.loop-at-preserved-then-behind-gt0
 loop-at-preserved-then-behind-gt0 g c =
     let view = g.D.Disk.view in
-    let before = c.args.id.base - 1 in
-    let old = c.loop-at.entries.items in
-    let new = c.read_piece.new.entries.items in
+    let base = c.args.id.base in
+    let old = c.loop-at.offsets.items in
+    let new = c.read_piece.new.offsets.items in
     record {
       looks = λ t. looks_then (view c.args.disk.now) (view c.loop-at.disk) (view c.read_piece.new.disk) (g.met.D.Disk.sound c.args.disk.now t) (c.loop-at.invariant.looks t) (c.read_piece.ensures.told t);
       faults = omega (arith, c.loop-at.invariant.faults, c.read_piece.ensures.cause.later);
@@ -55,46 +56,37 @@ loop-at-preserved-then-behind-gt0 g c =
         length-take c.loop-at.buffer.len (c.read_piece.new.buffer ++ drop (length c.read_piece.new.buffer) c.loop-at.buffer.items),
         length-append c.read_piece.new.buffer (drop (length c.read_piece.new.buffer) c.loop-at.buffer.items),
       );
-      numbered = c.in_ok-behind.ensures.numbered c.loop-at.invariant.numbered;
+      below = subst (IfRight (λ k. AreBelow new (c.loop-at.at + k))) c.in-Rest.is c.in_ok-behind.ensures.below;
       few = c.in_ok-behind.ensures.few;
       measured = omega (arith, c.loop-at.invariant.measured, subst (IsMeasured (length old) (length new)) c.in-Rest.is c.in_ok-behind.ensures.measured);
       scanned = λ t bytes reads.
           let now = reads_still (view c.args.disk.now) (view c.loop-at.disk) (place c.args.name.now c.args.id) bytes (c.loop-at.invariant.looks t) reads in
-          scanned_more bytes before old new c.loop-at.at (c.loop-at.invariant.scanned t bytes reads) c.in-Rest.behind
-          (subst (λ (w : Walked). ReadsPiece (drop c.loop-at.at bytes) (before + length old) old new w) c.in-Rest.is (c.in_ok-behind.ensures.reads t bytes now));
+          scanned_more bytes base c.requires.id.base_first old new c.loop-at.at (c.loop-at.invariant.scanned t bytes reads) c.in-Rest.behind
+          (subst (λ (w : Walked). ReadsPiece bytes (base - 1 + length old) c.loop-at.at old new w) c.in-Rest.is (c.in_ok-behind.ensures.reads t bytes now));
     }
 
 pub loop-at-preserved : goal.loop-at-preserved
 loop-at-preserved g c =
     let view = g.D.Disk.view in
-    let before = c.args.id.base - 1 in
-    let old = c.loop-at.entries.items in
-    let new = c.read_piece.new.entries.items in
+    let base = c.args.id.base in
+    let old = c.loop-at.offsets.items in
+    let new = c.read_piece.new.offsets.items in
     let none : c.in-Rest.behind ≡ 0 = omega (arith, c.if-behind-gt0.false) in
     record {
       looks = λ t. looks_then (view c.args.disk.now) (view c.loop-at.disk) (view c.read_piece.new.disk) (g.met.D.Disk.sound c.args.disk.now t) (c.loop-at.invariant.looks t) (c.read_piece.ensures.told t);
       faults = omega (arith, c.loop-at.invariant.faults, c.read_piece.ensures.cause.later);
       some = omega (arith, c.in_ok-lengthen-in-Rest.ensures.longer);
-      numbered = c.in_ok-behind.ensures.numbered c.loop-at.invariant.numbered;
+      below = subst (λ (k : ℕ). AreBelow new k) (omega (arith, none)) (subst (IfRight (λ k. AreBelow new (c.loop-at.at + k))) c.in-Rest.is c.in_ok-behind.ensures.below);
       few = c.in_ok-behind.ensures.few;
       measured = omega (arith, c.loop-at.invariant.measured, subst (IsMeasured (length old) (length new)) c.in-Rest.is c.in_ok-behind.ensures.measured);
       scanned = λ t bytes reads.
           let now = reads_still (view c.args.disk.now) (view c.loop-at.disk) (place c.args.name.now c.args.id) bytes (c.loop-at.invariant.looks t) reads in
-          subst (λ (k : ℕ). ScannedTo bytes before new k) (omega (arith, none))
-          (scanned_more bytes before old new c.loop-at.at (c.loop-at.invariant.scanned t bytes reads) c.in-Rest.behind
-          (subst (λ (w : Walked). ReadsPiece (drop c.loop-at.at bytes) (before + length old) old new w) c.in-Rest.is (c.in_ok-behind.ensures.reads t bytes now)));
+          subst (λ (k : ℕ). ScannedTo bytes base new k) (omega (arith, none))
+          (scanned_more bytes base c.requires.id.base_first old new c.loop-at.at (c.loop-at.invariant.scanned t bytes reads) c.in-Rest.behind
+          (subst (λ (w : Walked). ReadsPiece bytes (base - 1 + length old) c.loop-at.at old new w) c.in-Rest.is (c.in_ok-behind.ensures.reads t bytes now)));
     }
 
 pub returns-clause-frames : goal.returns-clause-frames
 returns-clause-frames g c = λ t bytes reads.
-    scanned_end bytes (c.args.id.base - 1) c.loop-at.entries.items c.loop-at.entries.items c.loop-at.at (c.loop-at.invariant.scanned t bytes reads)
+    scanned_end bytes c.args.id.base c.requires.id.base_first c.loop-at.offsets.items c.loop-at.offsets.items c.loop-at.at (c.loop-at.invariant.scanned t bytes reads)
     (omega (arith, c.loop-at-test.false, c.requires.end t bytes reads))
-
-pub returns-in-Gate-clause-numbered : goal.returns-in-Gate-clause-numbered
-returns-in-Gate-clause-numbered g c = c.in_ok-behind.ensures.numbered c.loop-at.invariant.numbered
-
-pub returns-in-Damaged-clause-numbered : goal.returns-in-Damaged-clause-numbered
-returns-in-Damaged-clause-numbered g c = c.in_ok-behind.ensures.numbered c.loop-at.invariant.numbered
-
-pub returns-clause-numbered : goal.returns-clause-numbered
-returns-clause-numbered g c = c.loop-at.invariant.numbered

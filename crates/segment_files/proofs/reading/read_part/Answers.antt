@@ -40,7 +40,7 @@ pub returns-in-Damaged-clause-found : goal.returns-in-Damaged-clause-found
 returns-in-Damaged-clause-found g c = λ t bytes reads head.
     let view = g.D.Disk.view in
     let now = reads_still (view c.args.disk.now) (view c.length.new.self) (place c.args.name.now c.args.id) bytes (c.in_ok-end.ensures.told t) reads in
-    bad_frames c.args.id bytes head.0 head.2 c.read_frames.new.entries.items c.in-Damaged.at (subst (λ (f : Frames). HasFrames bytes (c.args.id.base - 1) c.read_frames.new.entries.items f) c.in-Damaged.is (c.in_ok-at.ensures.frames t bytes now))
+    bad_frames c.args.id bytes head.0 head.2 c.read_frames.new.offsets.items c.in-Damaged.at (subst (λ (f : Frames). HasFrames bytes c.args.id.base c.read_frames.new.offsets.items f) c.in-Damaged.is (c.in_ok-at.ensures.frames t bytes now))
 
 pub returns-in-Damaged-clause-told : goal.returns-in-Damaged-clause-told
 returns-in-Damaged-clause-told g c = λ t.
@@ -55,11 +55,11 @@ returns-in-Damaged-clause-cause g c =
 pub returns-clause-found : goal.returns-clause-found
 returns-clause-found g c = λ t bytes reads head.
     let view = g.D.Disk.view in
-    let entries = c.read_frames.new.entries in
+    let offsets = c.read_frames.new.offsets in
     let now = reads_still (view c.args.disk.now) (view c.length.new.self) (place c.args.name.now c.args.id) bytes (c.in_ok-end.ensures.told t) reads in
-    let frames = subst (λ (f : Frames). HasFrames bytes (c.args.id.base - 1) entries.items f) c.in-End.is (c.in_ok-at.ensures.frames t bytes now) in
-    let part = is_part c.args.id bytes head.0 head.2 entries.items c.in-End.gate frames c.args.descriptor head.1 in
-    subst (λ (f : Found). IsContents c.args.id f (Open c.args.descriptor entries c.in-End.gate)) (sym part.1) (part.2, part.3)
+    let frames = subst (λ (f : Frames). HasFrames bytes c.args.id.base offsets.items f) c.in-End.is (c.in_ok-at.ensures.frames t bytes now) in
+    let part = is_part c.args.id bytes head.0 head.2 offsets.items c.in-End.gate frames c.args.descriptor head.1 in
+    subst (λ (f : Found). IsContents c.args.id bytes f (Open c.args.descriptor offsets c.in-End.gate)) (sym part.1) (part.2, part.3)
 
 pub returns-clause-told : goal.returns-clause-told
 returns-clause-told g c = λ t.
