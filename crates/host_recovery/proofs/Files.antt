@@ -7,7 +7,7 @@ use Rattle.disk_model.specs.Image.{Image}
 use Rattle.disk_model.specs.View.{View, MayLeave}
 use Rattle.segment_files.specs.Parse.{Numbered, Part, Whole}
 use Rattle.segment_files.specs.Folder.{folder, AreOf, Stands}
-use Rattle.segment_set.specs.declared.parts.Tail.{Tail}
+use Rattle.segment_set.specs.declared.tail.Tail.{Tail}
 use Rattle.segment_set.specs.declared.parts.Parts.{Parts}
 use Rattle.segment_set.specs.Growth.{grown, new_tail}
 use Rattle.segment_set.specs.Fits.{Fits, IsHeld, bare, log_of, parts_in, gained, first_id, frame_size, greatest_after}

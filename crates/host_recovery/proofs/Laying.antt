@@ -5,7 +5,7 @@ use Rattle.disk_model.specs.Image.{Image, place}
 use Rattle.disk_model.specs.View.{View, IsListed}
 use Rattle.segment_files.specs.Parse.{Part, Closed, Whole, Damaged}
 use Rattle.segment_files.specs.Folder.{found, folder, IsChoice, IsFault}
-use Rattle.segment_set.specs.declared.parts.Tail.{Tail}
+use Rattle.segment_set.specs.declared.tail.Tail.{Tail}
 use Rattle.segment_set.specs.declared.parts.Parts.{Parts}
 use Rattle.segment_set.specs.Fits.{Fits, parts_in}
 use Rattle.segment_set.proofs.Faultless.{no_fault}

@@ -8,7 +8,7 @@ use Rattle.disk_model.specs.Image.{Image}
 use Rattle.disk_model.specs.View.{View, LeavesOnly, IsSound}
 use Rattle.disk_model.proofs.Moments.{weaker}
 use Rattle.segment_files.specs.Folder.{folder, entries_of, IsChoice, IsFault, StandsForPrefix}
-use Rattle.segment_set.specs.declared.parts.Tail.{Tail}
+use Rattle.segment_set.specs.declared.tail.Tail.{Tail}
 use Rattle.segment_set.specs.declared.parts.Parts.{Parts}
 use Rattle.segment_set.specs.Fits.{Fits, IsHeld, IsInOrder as FilesAreInOrder, parts_in}
 use Rattle.segment_set.specs.Opening.{IsGreatestListed}

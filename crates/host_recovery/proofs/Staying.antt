@@ -8,7 +8,7 @@ use Rattle.disk_model.proofs.Moments.{goes_further, has_now, weaker}
 use Rattle.disk_model.proofs.Places.{stays_at}
 use Rattle.segment_files.specs.Files.{IsAtGate}
 use Rattle.segment_files.specs.Folder.{folder, IsChoice}
-use Rattle.segment_set.specs.declared.parts.Tail.{Tail}
+use Rattle.segment_set.specs.declared.tail.Tail.{Tail}
 use Rattle.segment_set.specs.Fits.{Fits, IsHeld, TailIs, parts_in}
 
 gate_stays : (v w : View) (p : Place) (gate : ℕ) → Stays v w → IsAtGate v p gate → IsAtGate w p gate

@@ -6,6 +6,7 @@ pub mod Settling
 pub mod Descriptors
 pub mod Indexes
 pub mod Standing
+pub mod Extending
 pub mod Placing
 pub mod Framing
 pub mod Walks

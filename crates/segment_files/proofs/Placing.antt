@@ -10,10 +10,10 @@ use Rattle.segment_files.specs.Contents.{AreAt, AreBelow, AreIn, HasAt, Offset_l
 
 -- THE BYTES OF A FILE
 
-at_behind : (file bytes : List ℕ) (place a : ℕ) → HasAt file place bytes → a ≤ length bytes → HasAt file (place + a) (drop a bytes)
+pub at_behind : (file bytes : List ℕ) (place a : ℕ) → HasAt file place bytes → a ≤ length bytes → HasAt file (place + a) (drop a bytes)
 at_behind file bytes place a has le = (has.0, sym (drop-drop a place file) ∙ ap (drop a) has.1 ∙ drop-append-le a bytes has.0 le)
 
-at_front : (file bytes : List ℕ) (place k : ℕ) → HasAt file place bytes → HasAt file place (take k bytes)
+pub at_front : (file bytes : List ℕ) (place k : ℕ) → HasAt file place bytes → HasAt file place (take k bytes)
 at_front file bytes place k has = (drop k bytes ++ has.0, has.1 ∙ ap (λ (l : List ℕ). l ++ has.0) (sym (take-append-drop k bytes)) ∙ append_assoc (take k bytes) (drop k bytes) has.0)
 
 -- ENTRIES IN A FILE

@@ -45,13 +45,10 @@ part_found id file Closed descriptor offsets gate count contents count_is = absu
 part_found id file (Damaged place) descriptor offsets gate count contents count_is = absurd contents
 part_found id file (Whole part) descriptor offsets gate count (id_is, opened) count_is =
     let many = at_length part.id.base file 64 gate part.entries offsets.items opened.offsets_are in
-    let base : part.id.base ≡ id.base = ap (λ (i : FileId). i.base) id_is in
-    record {
-      descriptor = opened.described;
-      last = omega (arith, count_is, many, base, opened.last);
-      gate = sym opened.gate_is;
-      offsets = subst (λ (k : ℕ). AreAt part.id.base file 64 part.entries offsets.items k) (sym opened.gate_is) opened.offsets_are;
-    }
+    let base : part.id.base ≡ id.base = ap (λ (i : FileId). i.base) id_is in (
+      record { descriptor = opened.described; last = omega (arith, count_is, many, base, opened.last); gate = sym opened.gate_is },
+      subst (λ (k : ℕ). AreAt part.id.base file 64 part.entries offsets.items k) (sym opened.gate_is) opened.offsets_are,
+    )
 
 -- a fault that says nothing of the file is right
 pub other_fault : (found : Found) (fault : FileFault) → IsNoDamage fault → IsTrueFault found fault

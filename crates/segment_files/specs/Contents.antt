@@ -99,19 +99,23 @@ AreAt base file from (e ∷ entries) (p ∷ offsets) to =
 abbrev pub AreBelow : Offset_list → ℕ → Type 0
 AreBelow offsets place = All (λ p. (p.0 < length offsets) × (p.1 < place)) offsets
 
--- what a scan tells of a part, whose file has these bytes
-pub record Shows (file : List ℕ) (scanned : Scanned) (part : Part) : Type 0 where
+-- the entries of a part stand in its file where these offsets say
+abbrev pub StandAt : List ℕ → Part → Offset_list → Type 0
+StandAt file part offsets = AreAt part.id.base file 64 part.entries offsets part.gate
+
+-- what a scan tells of a part
+pub record Shows (scanned : Scanned) (part : Part) : Type 0 where
   pub descriptor : scanned.descriptor ≡ appended_descriptor part.id part.size
   pub last : scanned.last ≡ part.last
   pub gate : scanned.gate ≡ part.gate
-  pub offsets : AreAt part.id.base file 64 part.entries scanned.offsets.items part.gate
 
+-- and of one whose file has these bytes
 abbrev pub IsFound : List ℕ → Answer → Found → Type 0
 IsFound file Is_closed Closed = Unit {0}
 IsFound file Is_closed (Whole part) = ⊥
 IsFound file Is_closed (Damaged place) = ⊥
 IsFound file (Is_part scanned) Closed = ⊥
-IsFound file (Is_part scanned) (Whole part) = Shows file scanned part
+IsFound file (Is_part scanned) (Whole part) = Shows scanned part × StandAt file part scanned.offsets.items
 IsFound file (Is_part scanned) (Damaged place) = ⊥
 
 -- `Failed` is told only where the disk has failed since

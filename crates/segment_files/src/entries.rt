@@ -2,8 +2,8 @@
 ghost use Rattle.std.specs.Prelude.{◌≡◌, ◌-◌, ◌<◌, ◌≤◌, ◌+◌, ℕ, List, IsTrue, IfOk, IsErrOf};
 ghost use Rattle.host_types.specs.declared.entry.Entry.{Entry};
 ghost use Rattle.disk_model.specs.Image.{IsFileId, place};
-ghost use Rattle.disk_model.specs.View.{LeavesAt, MayHold, Reads, IsListed};
-ghost use Rattle.disk_model.specs.Calls.{Looks, Stays};
+ghost use Rattle.disk_model.specs.View.{Reads, IsListed};
+ghost use Rattle.disk_model.specs.Calls.{Looks};
 ghost use Rattle.segment_files.specs.Contents.{HasFileCause, IsEntryRead, IsSpelledAt, MayStandAt};
 
 use crate::reading::FileFault;
@@ -12,9 +12,9 @@ use entry_codec::{ReadFault, read};
 use host_types::{Entry, Index, LogName};
 use std::alloc::Global;
 
-/// What stands in these bytes of a file, which are those from `from` up to `to`: the entry of this index, or else the file is
-/// damaged.
-fn entry_in<D: Disk>(
+/// Reads the entry of an index, which stands at `from` of a file and ends at or before `to`: one call of the disk, for so many
+/// bytes. Where another entry or none stands there, the file is damaged; no file is that was scanned and is as it was.
+pub fn read_entry<D: Disk>(
     alloc: Global,
     disk: &mut D,
     name: &LogName,
@@ -28,8 +28,9 @@ fn entry_in<D: Disk>(
     requires order { from ≤ to }
     ensures entry { IsTrue D.tells → (bytes : List ℕ) → Reads (D.view disk.old) (place name.now id) bytes
         → (size : ℕ) (entry : Entry) → IsSpelledAt bytes from size index entry → from + size ≤ to → IsEntryRead entry result }
+    // Whatever the disk tells.
     ensures range { IfOk result (MayStandAt index) }
-    ensures told { IsTrue D.tells → Looks (D.view disk.old) (D.view disk.new) }
+    ensures looks { IsTrue D.tells → Looks (D.view disk.old) (D.view disk.new) }
     ensures cause { HasFileCause (D.faults disk.old) (D.faults disk.new) result }
 {
     let mut buffer = vec![in alloc; 0u8; (to - from) as usize]?;
@@ -48,28 +49,4 @@ fn entry_in<D: Disk>(
         return Err(FileFault::Damaged { at: from });
     }
     Ok(entry)
-}
-
-/// Reads the entry of an index, which stands at `from` of a file and ends at or before `to`: one call of the disk, for so many
-/// bytes. Where another entry or none stands there, the file is damaged; no file is that was scanned and is as it was.
-pub fn read_entry<D: Disk>(
-    alloc: Global,
-    disk: &mut D,
-    name: &LogName,
-    id: FileId,
-    index: Index,
-    from: u64,
-    to: u64,
-) -> Result<Entry, FileFault>
-    requires id { IsFileId id }
-    requires listed { IsTrue D.tells → IsListed (D.view disk.old) (place name.now id) }
-    requires order { from ≤ to }
-    ensures entry { IsTrue D.tells → (bytes : List ℕ) → Reads (D.view disk.old) (place name.now id) bytes
-        → (size : ℕ) (entry : Entry) → IsSpelledAt bytes from size index entry → from + size ≤ to → IsEntryRead entry result }
-    ensures range { IfOk result (MayStandAt index) }
-    ensures stays { IsTrue D.tells → Stays (D.view disk.old) (D.view disk.new) }
-    ensures any_moment { IsTrue D.tells → LeavesAt (D.view disk.old) (D.view disk.new) (MayHold (D.view disk.old)) }
-    ensures cause { HasFileCause (D.faults disk.old) (D.faults disk.new) result }
-{
-    entry_in(alloc, disk, name, id, index, from, to)
 }

@@ -7,36 +7,37 @@ use Rattle.disk_model.specs.View.{View, LeavesOnly}
 use Rattle.segment_files.specs.Files.{KeepsOthers}
 use Rattle.segment_files.specs.Parse.{Part, Whole}
 use Rattle.segment_files.specs.Folder.{folder, EachHas}
-use Rattle.segment_set.specs.declared.parts.Tail.{Tail}
+use Rattle.segment_set.specs.declared.tail.Tail.{Tail}
 use Rattle.segment_set.specs.Growth.{HasOrGains}
-use Rattle.segment_set.specs.Fits.{Fits, IsFrameFor, IsHeld, IsTailAt, IsTailOf, StandsOrGains, TailFits, TailIs, frame_size, gained, greatest_after, last_of, log_of, parts_in, with_entry}
+use Rattle.segment_set.specs.Fits.{FilesFit, IsFrameFor, IsTailHeld, IsTailAt, IsTailOf, StandsOrGains, TailFits, TailIs, frame_size, gained, greatest_after, log_of, tail_parts, with_entry}
+use Rattle.segment_set.specs.Tails.{tail_last}
 use Rattle.segment_set.proofs.Loading.{bytes_of_whole}
 use Rattle.segment_set.proofs.Gaining.{whole_plain, with_or_without, list_at, fits_at}
 
 module _ (v : View) (name : List ℕ) (old : Option Tail) (greatest : ℕ) (tail : Tail) (some : old ≡ Some tail) where
   -- the tail that stands there
-  pub tail_fits : Fits v name old greatest → TailFits v name tail
+  pub tail_fits : FilesFit v name old greatest → TailFits v name tail
   tail_fits fits = subst (λ (o : Option Tail). TailIs v name o) some fits.tail_is
 
-  pub at_last : last_of old ≡ tail.last
-  at_last = ap last_of some
+  pub at_last : tail_last old ≡ tail.last
+  at_last = ap tail_last some
 
   pub greatest_stays : greatest ≡ greatest_after old greatest
   greatest_stays = sym (ap (λ (o : Option Tail). greatest_after o greatest) some)
 
-  pub frame_at : (frame : List ℕ) (entry : Entry) → IsFrameFor (last_of old) frame entry → IsFrameFor tail.last frame entry
+  pub frame_at : (frame : List ℕ) (entry : Entry) → IsFrameFor (tail_last old) frame entry → IsFrameFor tail.last frame entry
   frame_at frame entry f = subst (λ (k : ℕ). IsFrameFor k frame entry) at_last f
 
-  list_is : (p : Part) → folder name v.reading tail.id ≡ Whole p → parts_in v.reading name old ≡ p ∷ []
-  list_is p whole = ap (parts_in v.reading name) some ∙ list_at v name tail p whole
+  list_is : (p : Part) → folder name v.reading tail.id ≡ Whole p → tail_parts v.reading name old ≡ p ∷ []
+  list_is p whole = ap (tail_parts v.reading name) some ∙ list_at v name tail p whole
 
   pub advances_parts : (w : View) (next : Tail) (size : ℕ) (p : Part) (entry : Entry) → folder name v.reading tail.id ≡ Whole p → IsTailAt w name next (with_entry p entry)
-      → parts_in w.reading name (Some next) ≡ gained size greatest (parts_in v.reading name old) entry
+      → tail_parts w.reading name (Some next) ≡ gained size greatest (tail_parts v.reading name old) entry
   advances_parts w next size p entry whole at =
       list_at w name next (with_entry p entry) at.whole ∙ sym (ap (λ (l : List Part). gained size greatest l entry) (list_is p whole))
 
-  pub advances_fits : (w : View) (next : Tail) (p : Part) (entry : Entry) → Fits v name old greatest → KeepsOthers v w (place name tail.id) → next.id ≡ tail.id
-      → folder name v.reading tail.id ≡ Whole p → IsTailAt w name next (with_entry p entry) → Fits w name (Some next) greatest
+  pub advances_fits : (w : View) (next : Tail) (p : Part) (entry : Entry) → FilesFit v name old greatest → KeepsOthers v w (place name tail.id) → next.id ≡ tail.id
+      → folder name v.reading tail.id ≡ Whole p → IsTailAt w name next (with_entry p entry) → FilesFit w name (Some next) greatest
   advances_fits w next p entry fits keeps same whole at =
       fits_at v w name old greatest next (with_entry p entry) greatest fits
       (subst (λ (i : FileId). KeepsOthers v w (place name i)) (sym same) keeps)
@@ -45,14 +46,14 @@ module _ (v : View) (name : List ℕ) (old : Option Tail) (greatest : ℕ) (tail
       (subst (λ (i : FileId). i.generation ≤ greatest) (sym same)
       (let b = bytes_of_whole v name tail.id p whole in fits.generations tail.id (b.0, b.1)))
 
-  pub held_at : (p : Part) → folder name v.reading tail.id ≡ Whole p → IsHeld v name old → EachHas v name (p ∷ [])
+  pub held_at : (p : Part) → folder name v.reading tail.id ≡ Whole p → IsTailHeld v name old → EachHas v name (p ∷ [])
   held_at p whole held = subst (EachHas v name) (list_is p whole) held
 
-  pub advances_held : (w : View) (next : Tail) (p : Part) (entry : Entry) → IsTailAt w name next (with_entry p entry) → EachHas w name (with_entry p entry ∷ []) → IsHeld w name (Some next)
+  pub advances_held : (w : View) (next : Tail) (p : Part) (entry : Entry) → IsTailAt w name next (with_entry p entry) → EachHas w name (with_entry p entry ∷ []) → IsTailHeld w name (Some next)
   advances_held w next p entry at each = subst (EachHas w name) (sym (list_at w name next (with_entry p entry) at.whole)) each
 
   pub advances_left : (w : View) (p : Part) (entry : Entry) → folder name v.reading tail.id ≡ Whole p → LeavesOnly v w (HasOrGains name p ((p.last + 1, entry) ∷ []) (frame_size (p.last + 1) entry))
-      → LeavesOnly v w (StandsOrGains name (log_of (parts_in v.reading name old)) entry)
+      → LeavesOnly v w (StandsOrGains name (log_of (tail_parts v.reading name old)) entry)
   advances_left w p entry whole only =
       subst (λ (l : List Part). LeavesOnly v w (StandsOrGains name (log_of l) entry)) (sym (list_is p whole))
       (with_or_without v w name tail.id p entry (whole_plain v name tail.id p whole) tail.base_is only)

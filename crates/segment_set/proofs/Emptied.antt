@@ -9,9 +9,9 @@ use Rattle.disk_model.proofs.Places.{own}
 use Rattle.segment_files.specs.Files.{HasNames}
 use Rattle.segment_files.specs.Parse.{Numbered, Part, Closed}
 use Rattle.segment_files.specs.Folder.{folder, IsChoice, EachHas}
-use Rattle.segment_set.specs.declared.parts.Tail.{Tail}
+use Rattle.segment_set.specs.declared.tail.Tail.{Tail}
 use Rattle.segment_set.specs.Growth.{HasOrGains, grown}
-use Rattle.segment_set.specs.Fits.{Fits, IsEmptyWhereNone, IsHeld}
+use Rattle.segment_set.specs.Fits.{FilesFit, IsEmptyWhereNone, IsTailHeld}
 use Rattle.segment_set.specs.Opening.{Surveyed, OrGone}
 use Rattle.segment_set.proofs.Images.{here}
 use Rattle.segment_set.proofs.Picking.{settled_has, has_after, narrow}
@@ -71,7 +71,7 @@ tail_listed m w name part new long sound only none = ⊎_elim (λ same. of part 
     of p choice = let b = bytes_of_whole w name p.id p (choice.stand p (here p [])) in none p.id (b.0, b.1)
 
 -- and so does one that is held
-pub held_empty : (v : View) (name : List ℕ) (tail : Option Tail) (greatest : ℕ) → Fits v name tail greatest → IsHeld v name tail → IsEmptyWhereNone v name
+pub held_empty : (v : View) (name : List ℕ) (tail : Option Tail) (greatest : ℕ) → FilesFit v name tail greatest → IsTailHeld v name tail → IsEmptyWhereNone v name
 held_empty v name None greatest fits held none = held
 held_empty v name (Some tail) greatest fits held none =
     let t = fits.tail_is in

@@ -7,7 +7,7 @@ use Rattle.disk_model.specs.Calls.{Lists}
 use Rattle.segment_files.specs.Parse.{Part, Found, Closed, Whole, Damaged}
 use Rattle.segment_files.specs.Folder.{folder, HasOpen, IsChoice, IsDamagedAt, IsFault}
 use Rattle.segment_set.specs.declared.opened.Opened.{Opened}
-use Rattle.segment_set.specs.declared.parts.Tail.{Tail}
+use Rattle.segment_set.specs.declared.tail.Tail.{Tail}
 use Rattle.segment_set.specs.Opening.{Surveyed, OpenedIs, IsTailFound, opened_id}
 use Rattle.segment_set.proofs.Images.{nothing, only_one}
 use Rattle.segment_set.proofs.Growing.{folder_id}
@@ -48,7 +48,7 @@ no_fault v name parts id at choice based (inr (unbased, place)) =
 
 -- where the survey found no damage, and a tail that begins with the first entry
 pub surveyed_no_fault : (v0 v1 : View) (name : List ℕ) (ids closed : List FileId) (opened : Option Opened) (tail : Option Tail) (id : FileId) (at : ℕ) → Lists v0 name ids → v1.reading ≡ v0.reading
-    → Surveyed (folder name v1.reading) ids closed (opened_id opened) → OpenedIs (folder name v1.reading) opened → IsTailFound opened tail → IsFault (folder name v0.reading) id at → ⊥
+    → Surveyed (folder name v1.reading) ids closed (opened_id opened) → OpenedIs name v1.reading opened → IsTailFound opened tail → IsFault (folder name v0.reading) id at → ⊥
 surveyed_no_fault v0 v1 name ids closed None tail id at lists read1 s is found fault =
     no_fault v0 name [] id at (chosen_none v0 v1 name ids closed None lists read1 s refl) (λ p has. absurd (nothing p has)) fault
 surveyed_no_fault v0 v1 name ids closed (Some one) None id at lists read1 s is found fault = absurd found

@@ -2,7 +2,7 @@
 use Rattle.std.proofs.Common.{◌≡◌, ℕ, ◌+◌, ◌<◌, ◌≤◌, List, [], ◌∷◌, length, drop, refl, sym, ap, subst, ◌∙◌, arith, length-append}
 use Rattle.std.proofs.lemmas.List.{append-nil}
 use Rattle.host_types.specs.declared.entry.Entry.{Entry}
-use Rattle.entry_codec.specs.Spelled.{spelled}
+use Rattle.entry_codec.specs.Spelled.{EntryFits, spelled}
 use Rattle.entry_codec.specs.Reading.{spelling}
 use Rattle.entry_codec.proofs.Entries.{spelled_again}
 use Rattle.entry_codec.proofs.Bounds.{least_size, greatest_size}
@@ -15,7 +15,7 @@ use Rattle.host_types.specs.Limits.{last_limit}
 use Rattle.segment_files.specs.Parse.{Part, Whole, Framed, frame, is_next, frame_room}
 use Rattle.segment_files.specs.Folder.{folder}
 use Rattle.segment_files.proofs.FrameLemmas.{Follows, length-one_frame, frame_read}
-use Rattle.segment_set.specs.declared.parts.Tail.{Tail}
+use Rattle.segment_set.specs.declared.tail.Tail.{Tail}
 use Rattle.segment_set.specs.Fits.{IsFrameFor, TailFits, frame_size}
 use Rattle.segment_set.proofs.Growing.{Appendable, folder_id}
 
@@ -44,6 +44,15 @@ frame_short last bytes entry room f =
     let g = follows last bytes entry room f in
     let most = g.most in
     omega (arith, most, frame_long last bytes entry f, length-one_frame last (last + 1) entry g)
+
+pub frame_least : (last : ℕ) (bytes : List ℕ) (entry : Entry) → last < last_limit → IsFrameFor last bytes entry → 23 ≤ length bytes
+frame_least last bytes entry room f =
+    let g = follows last bytes entry room f in
+    let least = g.least in
+    omega (arith, least, frame_long last bytes entry f, length-one_frame last (last + 1) entry g)
+
+pub some_spelled : (last : ℕ) (entry : Entry) → EntryFits entry → 1 ≤ length (spelled (last + 1) entry)
+some_spelled last entry fits = omega (arith, least_size (last + 1) entry fits)
 
 -- it is read back
 pub frame_back : (last : ℕ) (bytes : List ℕ) (entry : Entry) → last < last_limit → IsFrameFor last bytes entry

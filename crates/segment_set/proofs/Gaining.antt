@@ -10,16 +10,16 @@ use Rattle.disk_model.proofs.Names.{place_cases}
 use Rattle.segment_files.specs.Files.{KeepsOthers}
 use Rattle.segment_files.specs.Parse.{Part, Whole}
 use Rattle.segment_files.specs.Folder.{Folder, folder, IsChoice, AreOf, Stands}
-use Rattle.segment_set.specs.declared.parts.Tail.{Tail}
+use Rattle.segment_set.specs.declared.tail.Tail.{Tail}
 use Rattle.segment_set.specs.Growth.{new_tail, HasOrGains, HasNoneOr}
-use Rattle.segment_set.specs.Fits.{Fits, IsTailAt, KeepsNames, StandsOrGains, bare, frame_size, log_of, part_list, parts_in, with_entry}
+use Rattle.segment_set.specs.Fits.{FilesFit, IsTailAt, KeepsNames, StandsOrGains, bare, frame_size, log_of, part_list, tail_parts, with_entry}
 use Rattle.segment_set.proofs.Images.{kept_at}
 use Rattle.segment_set.proofs.Loading.{bytes_of_whole}
 use Rattle.segment_set.proofs.Numbering.{IsPlain, none_follow, plain_part}
 use Rattle.segment_set.proofs.AreLogs.{are_none, are_one, bare-append, plain_grown}
 
 -- a file with a generation above the greatest isn't there
-pub fresh_id : (v : View) (name : List ℕ) (tail : Option Tail) (greatest : ℕ) (id : FileId) → Fits v name tail greatest → greatest < id.generation → v.reading (place name id) ≡ None
+pub fresh_id : (v : View) (name : List ℕ) (tail : Option Tail) (greatest : ℕ) (id : FileId) → FilesFit v name tail greatest → greatest < id.generation → v.reading (place name id) ≡ None
 fresh_id v name tail greatest id fits new = at (v.reading (place name id)) refl
   where
     at : (o : Option (List ℕ)) → v.reading (place name id) ≡ o → v.reading (place name id) ≡ None
@@ -82,11 +82,11 @@ keeps_names v w name id keeps = record {
     apart : (q : Place) → q.name ≢ name → q ≢ place name id
     apart q ne is = ne (ap (λ (p : Place). p.name) is)
 
-pub list_at : (v : View) (name : List ℕ) (tail : Tail) (p : Part) → folder name v.reading tail.id ≡ Whole p → parts_in v.reading name (Some tail) ≡ p ∷ []
+pub list_at : (v : View) (name : List ℕ) (tail : Tail) (p : Part) → folder name v.reading tail.id ≡ Whole p → tail_parts v.reading name (Some tail) ≡ p ∷ []
 list_at v name tail p whole = ap part_list whole
 
-pub fits_at : (v w : View) (name : List ℕ) (tail : Option Tail) (greatest : ℕ) (next : Tail) (p : Part) (greatest' : ℕ) → Fits v name tail greatest → KeepsOthers v w (place name next.id)
-    → IsTailAt w name next p → ((id : FileId) → IsListed v (place name id) → id ≡ next.id) → next.id.generation ≤ greatest' → Fits w name (Some next) greatest'
+pub fits_at : (v w : View) (name : List ℕ) (tail : Option Tail) (greatest : ℕ) (next : Tail) (p : Part) (greatest' : ℕ) → FilesFit v name tail greatest → KeepsOthers v w (place name next.id)
+    → IsTailAt w name next p → ((id : FileId) → IsListed v (place name id) → id ≡ next.id) → next.id.generation ≤ greatest' → FilesFit w name (Some next) greatest'
 fits_at v w name tail greatest next p greatest' fits keeps at only low = record {
   tail_is = record { part = p; whole = at.whole; last = at.last; gate = at.gate; size = at.size; at_gate = at.at_gate };
   only = λ id listed. is_next id listed;

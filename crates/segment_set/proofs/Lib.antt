@@ -6,7 +6,6 @@ pub mod Faultless
 pub mod Frames
 pub mod Gaining
 pub mod Growing
-pub mod Handing
 pub mod Images
 pub mod Loaded
 pub mod Loading
@@ -14,6 +13,8 @@ pub mod Names
 pub mod NewTail
 pub mod Numbering
 pub mod Picking
+pub mod Entries
+pub mod Noting
 pub mod Pushing
 pub mod Removing
 pub mod Starting

@@ -1,20 +1,20 @@
 -- What an opening gives.
 use Rattle.std.proofs.Common.{◌≡◌, ◌≢◌, ◌⊎◌, inl, inr, ⊎_elim, ℕ, ◌≤◌, List, [], ◌∷◌, Option, Some, None, refl, sym, ap, subst, ◌∙◌, Contains}
-use Rattle.std.proofs.lemmas.List.{append-nil}
 use Rattle.disk_model.specs.declared.file_id.FileId.{FileId}
 use Rattle.disk_model.specs.Image.{Place, Image, place}
 use Rattle.disk_model.specs.View.{View, MayHold, IsListed, IsSettled, IsSound, LeavesAt}
 use Rattle.disk_model.specs.Calls.{Lists}
 use Rattle.segment_files.specs.declared.descriptor.Descriptor.{Descriptor}
 use Rattle.segment_files.specs.Files.{HasNames, IsAtGate}
-use Rattle.segment_files.specs.Parse.{Numbered, Part, Whole, base_place}
-use Rattle.segment_files.specs.Folder.{Folder, folder, entries_of, IsChoice, IsFault}
+use Rattle.segment_files.specs.Contents.{Offset_list, StandAt}
+use Rattle.segment_files.specs.Parse.{Part, Whole, base_place}
+use Rattle.segment_files.specs.Folder.{Folder, folder, IsChoice, IsFault}
 use Rattle.segment_set.specs.declared.opened.Opened.{Opened}
-use Rattle.segment_set.specs.declared.parts.Tail.{Tail}
-use Rattle.segment_set.specs.Fits.{Fits, IsEmptyWhereNone, IsHeld, part_list, parts_in}
-use Rattle.segment_set.specs.Opening.{AreHanded, AreOpened, Surveyed, OpenedIs, OrGone, IsTailFound, IsGreatestListed, opened_id}
+use Rattle.segment_set.specs.declared.tail.Tail.{Tail}
+use Rattle.segment_set.specs.Fits.{FilesFit, HasOffsets, IsEmptyWhereNone, IsTailHeld, part_list, tail_parts}
+use Rattle.segment_set.specs.Opening.{AreOffsetsOf, Surveyed, OpenedIs, OrGone, IsTailFound, IsGreatestListed, opened_id}
 use Rattle.segment_set.proofs.Growing.{folder_id}
-use Rattle.segment_set.proofs.Loading.{Opens, chosen_one, chosen_none, whole_after, only_opened, gate_after, held_after}
+use Rattle.segment_set.proofs.Loading.{Opens, chosen_one, chosen_none, whole_after, opened_same, only_opened, gate_after, held_after}
 
 -- the calls of an opening, one after the other
 pub opens_by : (v0 v1 v2 v3 : View) (name : List ℕ) (items ids closed_items closed : List FileId) (opened : Option FileId) → ids ≡ items → closed ≡ closed_items
@@ -48,9 +48,9 @@ list_of_whole files id p is = ap part_list is
 
 module _ (v0 v1 v2 v3 : View) (name : List ℕ) (ids closed : List FileId) where
   abbrev Facts : Option Opened → Option Tail → Type 0
-  Facts opened tail = Opens v0 v1 v2 v3 name ids closed (opened_id opened) × OpenedIs (folder name v1.reading) opened × IsTailFound opened tail
+  Facts opened tail = Opens v0 v1 v2 v3 name ids closed (opened_id opened) × OpenedIs name v1.reading opened × IsTailFound opened tail
 
-  pub loaded_choice : (opened : Option Opened) (tail : Option Tail) → Facts opened tail → IsChoice (folder name v0.reading) (parts_in v3.reading name tail)
+  pub loaded_choice : (opened : Option Opened) (tail : Option Tail) → Facts opened tail → IsChoice (folder name v0.reading) (tail_parts v3.reading name tail)
   loaded_choice None None f = chosen_none v0 v1 name ids closed None f.0.lists f.0.read1 f.0.survey refl
   loaded_choice None (Some tail) f = absurd f.2
   loaded_choice (Some one) None f = absurd f.2
@@ -61,22 +61,28 @@ module _ (v0 v1 v2 v3 : View) (name : List ℕ) (ids closed : List FileId) where
       (sym (list_of_whole (folder name v3.reading) tail.id f.1.0 (ap (folder name v3.reading) f.2.0 ∙ whole3)))
       (chosen_one v0 v1 name ids closed (Some one.id) f.0.lists f.0.read1 f.0.survey one.id f.1.0 refl whole0)
 
-  pub loaded_entries : (opened : Option Opened) (tail : Option Tail) → Facts opened tail → (entries : Numbered) → AreHanded opened entries → AreOpened (folder name v1.reading) opened entries → entries_of (parts_in v3.reading name tail) ≡ entries
-  loaded_entries None None f entries handed read = sym handed
-  loaded_entries None (Some tail) f entries handed read = absurd f.2
-  loaded_entries (Some one) None f entries handed read = absurd f.2
-  loaded_entries (Some one) (Some tail) f entries handed read =
+  pub loaded_offsets : (opened : Option Opened) (tail : Option Tail) → Facts opened tail → (offsets : Offset_list) → AreOffsetsOf opened offsets → HasOffsets v3 name tail offsets
+  loaded_offsets None None f offsets are = tt {0}
+  loaded_offsets None (Some tail) f offsets are = absurd f.2
+  loaded_offsets (Some one) None f offsets are = absurd f.2
+  loaded_offsets (Some one) (Some tail) f offsets are = λ part whole bytes reads.
       let whole0 : folder name v0.reading one.id ≡ Whole f.1.0 = ap (λ (r : Image). folder name r one.id) (sym f.0.read1) ∙ f.1.1 in
       let whole3 = whole_after v0 v1 v2 v3 name ids closed (Some one.id) f.0 one.id f.1.0 refl whole0 in
-      ap entries_of (list_of_whole (folder name v3.reading) tail.id f.1.0 (ap (folder name v3.reading) f.2.0 ∙ whole3)) ∙ append-nil f.1.0.entries ∙ read f.1.0 f.1.1
+      let same : f.1.0 ≡ part = cc (ap (folder name v3.reading) f.2.0, whole3, whole) in
+      let first : v1.reading (place name one.id) ≡ Some bytes =
+      ap (λ (r : Image). r (place name one.id)) f.0.read1
+      ∙ sym (opened_same v0 v1 v2 v3 name ids closed (Some one.id) f.0 one.id refl)
+      ∙ ap (λ (i : FileId). v3.reading (place name i)) (sym f.2.0)
+      ∙ reads in
+      subst (λ (p : Part). StandAt bytes p offsets) same (subst (λ (l : Offset_list). StandAt bytes f.1.0 l) (sym are) (f.1.3 bytes first))
 
-  pub loaded_held : (opened : Option Opened) (tail : Option Tail) → Facts opened tail → IsEmptyWhereNone v0 name → IsHeld v3 name tail
-  loaded_held opened tail f empty = held_after v0 v1 v2 v3 name ids closed (opened_id opened) f.0 (parts_in v3.reading name tail) empty (loaded_choice opened tail f)
+  pub loaded_held : (opened : Option Opened) (tail : Option Tail) → Facts opened tail → IsEmptyWhereNone v0 name → IsTailHeld v3 name tail
+  loaded_held opened tail f empty = held_after v0 v1 v2 v3 name ids closed (opened_id opened) f.0 (tail_parts v3.reading name tail) empty (loaded_choice opened tail f)
 
   listed_before : (opened : Option Opened) (tail : Option Tail) → Facts opened tail → (id : FileId) → IsListed v3 (place name id) → Contains ids id
   listed_before opened tail f id listed = f.0.survey.opened_among id (only_opened v0 v1 v2 v3 name ids closed (opened_id opened) f.0 id listed)
 
-  pub loaded_fits : (opened : Option Opened) (tail : Option Tail) → Facts opened tail → (greatest : ℕ) → ((id : FileId) → Contains ids id → id.generation ≤ greatest) → Fits v3 name tail greatest
+  pub loaded_fits : (opened : Option Opened) (tail : Option Tail) → Facts opened tail → (greatest : ℕ) → ((id : FileId) → Contains ids id → id.generation ≤ greatest) → FilesFit v3 name tail greatest
   loaded_fits None None f greatest above = record {
     tail_is = tt;
     only = λ id listed. absurd (cc (only_opened v0 v1 v2 v3 name ids closed None f.0 id listed));
@@ -114,7 +120,7 @@ loaded_greatest v0 name ids greatest lists above taken = record {
 
 -- a lone file that doesn't begin with the first entry
 pub unbased : (v0 v1 : View) (name : List ℕ) (ids closed : List FileId) (one : Opened) → Lists v0 name ids → v1.reading ≡ v0.reading → Surveyed (folder name v1.reading) ids closed (Some one.id)
-    → OpenedIs (folder name v1.reading) (Some one) → one.id.base ≢ 1 → IsFault (folder name v0.reading) one.id base_place
+    → OpenedIs name v1.reading (Some one) → one.id.base ≢ 1 → IsFault (folder name v0.reading) one.id base_place
 unbased v0 v1 name ids closed one lists read1 s opened ne =
     let whole0 : folder name v0.reading one.id ≡ Whole opened.0 = ap (λ (r : Image). folder name r one.id) (sym read1) ∙ opened.1 in
     let part_id : opened.0.id ≡ one.id = folder_id name v0.reading one.id opened.0 whole0 in

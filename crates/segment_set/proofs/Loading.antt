@@ -88,6 +88,9 @@ module _ (v0 v1 v2 v3 : View) (name : List ℕ) (ids closed : List FileId) (open
   pub whole_after : (id : FileId) (part : Part) → opened ≡ Some id → folder name v0.reading id ≡ Whole part → folder name v3.reading id ≡ Whole part
   whole_after id part is whole = ap (found id) (reads_same id (opened_apart id is)) ∙ whole
 
+  pub opened_same : (id : FileId) → opened ≡ Some id → v3.reading (place name id) ≡ v0.reading (place name id)
+  opened_same id is = reads_same id (opened_apart id is)
+
   -- only the open file is listed
   pub only_opened : (id : FileId) → IsListed v3 (place name id) → opened ≡ Some id
   only_opened id listed = ⊎_elim

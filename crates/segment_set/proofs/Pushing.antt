@@ -1,5 +1,5 @@
 -- A frame is appended to the tail.
-use Rattle.std.proofs.Common.{◌≡◌, ℕ, ◌+◌, ◌<◌, List, [], ◌∷◌, length, sym, ap, subst, ◌∙◌, arith}
+use Rattle.std.proofs.Common.{◌≡◌, ℕ, ◌+◌, ◌<◌, List, [], ◌∷◌, ◌++◌, length, sym, ap, subst, ◌∙◌, arith}
 use Rattle.host_types.specs.declared.entry.Entry.{Entry}
 use Rattle.disk_model.specs.Image.{Place, place}
 use Rattle.disk_model.specs.View.{View, Reads, IsSound, LeavesAt, LeavesOnly}
@@ -7,11 +7,14 @@ use Rattle.segment_files.specs.Files.{IsAtGate, OrFrame, Becomes, appended, then
 use Rattle.host_types.specs.Limits.{last_limit}
 use Rattle.segment_files.specs.Parse.{Part, Whole}
 use Rattle.segment_files.specs.Folder.{folder, EachHas}
-use Rattle.segment_set.specs.declared.parts.Tail.{Tail}
+use Rattle.segment_set.specs.declared.tail.Tail.{Tail}
 use Rattle.segment_set.specs.Growth.{HasOrGains, grown}
-use Rattle.segment_set.specs.Fits.{IsFrameFor, TailFits, frame_size, with_entry}
+use Rattle.segment_files.specs.Contents.{AreAt, Offset_list}
+use Rattle.segment_files.proofs.Extending.{stands_more}
+use Rattle.disk_model.specs.declared.file_id.FileId.{FileId}
+use Rattle.segment_set.specs.Fits.{ArePlaced, IsFrameFor, TailFits, frame_size, with_entry}
 use Rattle.segment_set.proofs.Growing.{Appendable, appending, reads_after, held_after, gate_after}
-use Rattle.segment_set.proofs.Frames.{behind, appendable}
+use Rattle.segment_set.proofs.Frames.{behind, appendable, some_spelled}
 
 module _ (v e : View) (name : List ℕ) (tail : Tail) (part : Part) (bytes : List ℕ) (entry : Entry)
     (sound : IsSound v) (fits : TailFits v name tail) (whole : folder name v.reading tail.id ≡ Whole part) (room : tail.last < last_limit) (f : IsFrameFor tail.last bytes entry) where
@@ -67,3 +70,21 @@ module _ (v e : View) (name : List ℕ) (tail : Tail) (part : Part) (bytes : Lis
 
   pub push_end : (with_entry part entry).gate ≡ tail.gate + frame_size (tail.last + 1) entry
   push_end = ap (λ (k : ℕ). k + frame_size (part.last + 1) entry) g.gate_is ∙ ap (λ (k : ℕ). tail.gate + frame_size (k + 1) entry) (appendable v name tail part bytes entry fits whole room f).2
+
+  -- and each entry stands where the offsets say
+  pub push_placed : Done → (offsets : Offset_list) → ArePlaced v name tail.id part offsets → ArePlaced e name tail.id (with_entry part entry) (offsets ++ (tail.last, tail.gate + 5) ∷ [])
+  push_placed done offsets placed c reads =
+      let h = appendable v name tail part bytes entry fits whole room f in
+      let b = g.at_gate.bytes in
+      let old : Reads v (place name tail.id) b = subst (λ (p : Place). Reads v p b) (sym at) g.at_gate.reads in
+      let became = done b old in
+      let same : appended b tail.gate (then_shut (behind tail.last entry)) ≡ c = cc (became.reads, reads) in
+      let gate : part.gate ≡ tail.gate = g.gate_is in
+      let last : tail.last ≡ part.last = sym h.2 in
+      let base : part.id.base ≡ 1 = ap (λ (i : FileId). i.base) h.1 ∙ tail.base_is in
+      let before = subst (λ (k : ℕ). AreAt part.id.base b 64 part.entries offsets k) gate (placed b old) in
+      let within = g.at_gate.within in
+      let more = stands_more part.id.base b tail.gate part.entries offsets (tail.last + 1) tail.last entry (omega (arith, within)) f.range f.fits (some_spelled tail.last entry f.fits) (omega (arith, base)) before in
+      subst (λ (k : ℕ). AreAt part.id.base c 64 (part.entries ++ (k + 1, entry) ∷ []) (offsets ++ (tail.last, tail.gate + 5) ∷ []) (part.gate + frame_size (k + 1) entry)) last
+      (subst (λ (k : ℕ). AreAt part.id.base c 64 (part.entries ++ (tail.last + 1, entry) ∷ []) (offsets ++ (tail.last, tail.gate + 5) ∷ []) (k + frame_size (tail.last + 1) entry)) (sym gate)
+      (subst (λ (l : List ℕ). AreAt part.id.base l 64 (part.entries ++ (tail.last + 1, entry) ∷ []) (offsets ++ (tail.last, tail.gate + 5) ∷ []) (tail.gate + frame_size (tail.last + 1) entry)) same more))

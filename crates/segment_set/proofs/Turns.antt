@@ -9,8 +9,8 @@ use Rattle.disk_model.specs.Calls.{Lists}
 use Rattle.disk_model.proofs.Moments.{goes_further, weaker}
 use Rattle.disk_model.proofs.Names.{holds_now}
 use Rattle.segment_files.specs.Parse.{Part, Found, Closed, Whole, Damaged, parse}
-use Rattle.segment_files.specs.Folder.{Folder, folder, IsDamagedAt, IsFirstDamaged}
-use Rattle.segment_files.specs.Contents.{Shows, IsFound}
+use Rattle.segment_files.specs.Folder.{Folder, folder, found, IsDamagedAt, IsFirstDamaged}
+use Rattle.segment_files.specs.Contents.{Shows, StandAt, IsFound}
 use Rattle.segment_files.specs.declared.reading.Part.{Part as Scanned}
 use Rattle.segment_files.specs.declared.reading.Found.TheVariants.{Part as Is_part}
 use Rattle.segment_set.specs.declared.opened.Opened.{Opened}
@@ -19,13 +19,24 @@ use Rattle.segment_set.specs.Opening.{Adds, Surveyed, IsLooked, IsOf, IsSeenDama
 use Rattle.segment_set.proofs.Surveying.{one_closed, one_open, ahead_fresh, first_damaged, second_open}
 
 -- a scan that tells a part
-pub found_part : (id : FileId) (b : List ℕ) (s : Scanned) → IsFound (Is_part s) (parse id b) → (p : Part) × (parse id b ≡ Whole p) × Shows s p
+found_part : (id : FileId) (b : List ℕ) (s : Scanned) → IsFound b (Is_part s) (parse id b) → (p : Part) × (parse id b ≡ Whole p) × Shows s p × StandAt b p s.offsets.items
 found_part id b s is = at (parse id b) refl is
   where
-    at : (f : Found) → parse id b ≡ f → IsFound (Is_part s) f → (p : Part) × (parse id b ≡ Whole p) × Shows s p
+    at : (f : Found) → parse id b ≡ f → IsFound b (Is_part s) f → (p : Part) × (parse id b ≡ Whole p) × Shows s p × StandAt b p s.offsets.items
     at Closed e h = absurd h
-    at (Whole p) e h = (p, e, h)
+    at (Whole p) e h = (p, e, h.0, h.1)
     at (Damaged n) e h = absurd h
+
+-- in an image that has the file
+pub part_in : (name : List ℕ) (image : Image) (id : FileId) (b : List ℕ) (s : Scanned) → image (place name id) ≡ Some b → IsFound b (Is_part s) (parse id b)
+    → (p : Part) × (folder name image id ≡ Whole p) × Shows s p × ((bytes : List ℕ) → image (place name id) ≡ Some bytes → StandAt bytes p s.offsets.items)
+part_in name image id b s reads is =
+    let p = found_part id b s is in (
+      p.0,
+      ap (found id) reads ∙ p.1,
+      p.2,
+      λ bytes now. let same : b ≡ bytes = cc (reads, now) in subst (λ (l : List ℕ). StandAt l p.0 s.offsets.items) same p.3,
+    )
 
 pub left_further : (v0 v w : View) → IsSound v → LeavesAt v0 v (MayHold v0) → LeavesAt v w (MayHold v) → LeavesAt v0 w (MayHold v0)
 left_further v0 v w sound so_far more =
@@ -56,14 +67,14 @@ module _ (v0 v : View) (name : List ℕ) (ids : List FileId) (lists : Lists v0 n
   closed_more is = widen (closed ++ get_or ids n d ∷ []) (opened_id opened)
       (one_closed (folder name v0.reading) (take n ids) closed (opened_id opened) (get_or ids n d) s (ahead_fresh ids n d lt lists.rising) (sym (ap (λ (f : Folder). f (get_or ids n d)) same_folder) ∙ is))
 
-  pub open_more : (one : Opened) → opened_id opened ≡ None → IsLooked (folder name v.reading) (get_or ids n d) (Some one)
-      → Surveyed (folder name v0.reading) (take (n + 1) ids) closed (Some one.id) × OpenedIs (folder name v0.reading) (Some one)
+  pub open_more : (one : Opened) → opened_id opened ≡ None → IsLooked name v.reading (get_or ids n d) (Some one)
+      → Surveyed (folder name v0.reading) (take (n + 1) ids) closed (Some one.id) × OpenedIs name v0.reading (Some one)
   open_more one none looked =
-      let whole : folder name v0.reading (get_or ids n d) ≡ Whole looked.1.0 = sym (ap (λ (f : Folder). f (get_or ids n d)) same_folder) ∙ looked.1.1 in (
+      let whole : folder name v0.reading (get_or ids n d) ≡ Whole looked.1.0 = sym (ap (λ (f : Folder). f (get_or ids n d)) same_folder) ∙ ap (folder name v.reading) (sym looked.0) ∙ looked.1.1 in (
         subst (λ (i : FileId). Surveyed (folder name v0.reading) (take (n + 1) ids) closed (Some i)) (sym looked.0)
             (widen closed (Some (get_or ids n d)) (one_open (folder name v0.reading) (take n ids) closed (get_or ids n d) looked.1.0
             (subst (λ (o : Option FileId). Surveyed (folder name v0.reading) (take n ids) closed o) none s) whole)),
-        (looked.1.0, ap (folder name v0.reading) looked.0 ∙ whole, looked.1.2),
+        (looked.1.0, ap (folder name v0.reading) looked.0 ∙ whole, looked.1.2, λ bytes at. looked.1.3 bytes (ap (λ (r : Image). r (place name one.id)) reading ∙ at)),
       )
 
   pub damaged_first : (has_open : Bool) (at : ℕ) → has_open ≡ is_some opened → IsSeenDamaged (folder name v.reading) (get_or ids n d) has_open at → IsFirstDamaged (folder name v0.reading) (get_or ids n d) at
@@ -83,11 +94,11 @@ module _ (v0 v : View) (name : List ℕ) (ids : List FileId) (lists : Lists v0 n
 
 -- what a turn leaves
 abbrev pub SurveyIs : View → List ℕ → List FileId → List FileId → Option Opened → Type 0
-SurveyIs v0 name looked closed opened = Surveyed (folder name v0.reading) looked closed (opened_id opened) × OpenedIs (folder name v0.reading) opened
+SurveyIs v0 name looked closed opened = Surveyed (folder name v0.reading) looked closed (opened_id opened) × OpenedIs name v0.reading opened
 
 pub turned : (v0 v : View) (name : List ℕ) (ids : List FileId) → Lists v0 name ids → v.reading ≡ v0.reading → (n : ℕ) (d : FileId) → n < length ids
     → (closed closed' : List FileId) (opened opened' : Option Opened) → SurveyIs v0 name (take n ids) closed opened
-    → (one : Option Opened) → IsLooked (folder name v.reading) (get_or ids n d) one → (has_open : Bool) → has_open ≡ is_some opened → (IsTrue has_open → one ≡ None)
+    → (one : Option Opened) → IsLooked name v.reading (get_or ids n d) one → (has_open : Bool) → has_open ≡ is_some opened → (IsTrue has_open → one ≡ None)
     → Adds (get_or ids n d) one closed opened closed' opened' → SurveyIs v0 name (take (n + 1) ids) closed' opened'
 turned v0 v name ids lists reading n d lt closed closed' opened opened' s None looked has_open is shut adds =
     subst (λ (c : List FileId). SurveyIs v0 name (take (n + 1) ids) c opened') (sym adds.0)

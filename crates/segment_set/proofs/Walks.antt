@@ -17,18 +17,18 @@ pub frame_form : (follows : Follows) (room before : ℕ) (l : List ℕ) → fram
 unfolding frame
 frame_form follows room before l = refl
 
-record Fits (size long n : ℕ) (es : Numbered) (b : Body) : Type 0 where
+record FilesFit (size long n : ℕ) (es : Numbered) (b : Body) : Type 0 where
   pub size_is : n ≡ 4 + size
   pub within : n ≤ long
   pub whole : (more : ℕ) → n ≤ more → form size more b ≡ Framed es n
 
-fits : (size long n : ℕ) (es : Numbered) (b : Body) → form size long b ≡ Framed es n → Fits size long n es b
+fits : (size long n : ℕ) (es : Numbered) (b : Body) → form size long b ≡ Framed es n → FilesFit size long n es b
 fits size long n es b is = first (nat_lt long 4) refl is
   where
     out : ℕ → Frame
     out more = if not (nat_le 17 size && nat_le size 8388608) then Crooked 0 else framed size more b
 
-    third : (h : Numbered) → b ≡ Holds h → not (nat_le 17 size && nat_le size 8388608) ≡ false → (t : Bool) → nat_lt long (4 + size) ≡ t → (if t then Crooked long else Framed h (4 + size)) ≡ Framed es n → Fits size long n es b
+    third : (h : Numbered) → b ≡ Holds h → not (nat_le 17 size && nat_le size 8388608) ≡ false → (t : Bool) → nat_lt long (4 + size) ≡ t → (if t then Crooked long else Framed h (4 + size)) ≡ Framed es n → FilesFit size long n es b
     third h b_is right true t_is is = absurd (cc)
     third h b_is right false t_is is =
         let n_is : n ≡ 4 + size = cc in
@@ -47,15 +47,15 @@ fits size long n es b is = first (nat_lt long 4) refl is
               ∙ is;
         }
 
-    second : (t : Bool) → not (nat_le 17 size && nat_le size 8388608) ≡ t → (if t then Crooked 0 else framed size long b) ≡ Framed es n → Fits size long n es b
+    second : (t : Bool) → not (nat_le 17 size && nat_le size 8388608) ≡ t → (if t then Crooked 0 else framed size long b) ≡ Framed es n → FilesFit size long n es b
     second true t_is is = absurd (cc)
     second false t_is is = held b refl is
       where
-        held : (d : Body) → b ≡ d → framed size long d ≡ Framed es n → Fits size long n es b
+        held : (d : Body) → b ≡ d → framed size long d ≡ Framed es n → FilesFit size long n es b
         held (Breaks p) d_is is = absurd (cc)
         held (Holds h) d_is is = third h d_is t_is (nat_lt long (4 + size)) refl is
 
-    first : (t : Bool) → nat_lt long 4 ≡ t → (if t then Crooked long else (if not (nat_le 17 size && nat_le size 8388608) then Crooked 0 else framed size long b)) ≡ Framed es n → Fits size long n es b
+    first : (t : Bool) → nat_lt long 4 ≡ t → (if t then Crooked long else (if not (nat_le 17 size && nat_le size 8388608) then Crooked 0 else framed size long b)) ≡ Framed es n → FilesFit size long n es b
     first true t_is is = absurd (cc)
     first false t_is is = second (not (nat_le 17 size && nat_le size 8388608)) refl is
 

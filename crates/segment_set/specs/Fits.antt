@@ -1,16 +1,18 @@
 -- What the parts of a log are on a disk that tells.
-use Rattle.std.specs.Prelude.{◌≡◌, ◌≢◌, ◌≤◌, ◌⊎◌, ◌+◌, ℕ, List, [], ◌∷◌, ◌++◌, length, map, Option, Some, None}
+use Rattle.std.specs.Prelude.{◌≡◌, ◌≢◌, ◌≤◌, ◌⊎◌, ◌+◌, ℕ, List, [], ◌∷◌, ◌++◌, length, map, Option, Some, None, Contains}
 use Rattle.host_types.specs.declared.entry.Entry.{Entry}
 use Rattle.entry_codec.specs.Spelled.{IsInRange, EntryFits}
 use Rattle.disk_model.specs.declared.file_id.FileId.{FileId}
 use Rattle.disk_model.specs.Image.{Place, Image, place}
-use Rattle.disk_model.specs.View.{View, MayHold, MayLeave, IsListed}
+use Rattle.disk_model.specs.View.{View, MayHold, MayLeave, IsListed, Reads}
 use Rattle.segment_files.specs.Files.{IsAtGate}
 use Rattle.segment_files.specs.Parse.{Numbered, Part, Found, Closed, Whole, Damaged}
 use Rattle.segment_files.specs.Folder.{folder, entries_of, Stands, StandsForPrefix, EachHas}
-use Rattle.segment_files.specs.Contents.{frame_bytes, shut_frame_bytes}
+use Rattle.segment_files.specs.Contents.{MayStandAt, Offset_list, StandAt, frame_bytes, shut_frame_bytes}
 use Rattle.segment_set.specs.Growth.{grown, new_tail}
-use Rattle.segment_set.specs.declared.parts.Tail.{Tail}
+use Rattle.segment_set.specs.declared.tail.Tail.{Tail}
+use Rattle.segment_set.specs.declared.parts.Parts.{Parts}
+use Rattle.segment_set.specs.Tails.{tail_last}
 
 abbrev pub part_list : Found → List Part
 part_list Closed = []
@@ -18,9 +20,9 @@ part_list (Whole part) = part ∷ []
 part_list (Damaged at) = []
 
 -- the parts that an image has, where this is the tail
-abbrev pub parts_in : Image → List ℕ → Option Tail → List Part
-parts_in image name None = []
-parts_in image name (Some tail) = part_list (folder name image tail.id)
+abbrev pub tail_parts : Image → List ℕ → Option Tail → List Part
+tail_parts image name None = []
+tail_parts image name (Some tail) = part_list (folder name image tail.id)
 
 -- the entries without their indexes
 abbrev pub bare : Numbered → List Entry
@@ -47,19 +49,56 @@ abbrev pub IsTailOf : Option Tail → FileId → Type 0
 IsTailOf None id = ⊥
 IsTailOf (Some tail) id = id ≡ tail.id
 
--- the disk fits the parts: the tail, and no file beside it
-pub record Fits (v : View) (name : List ℕ) (tail : Option Tail) (greatest : ℕ) : Type 0 where
+-- the files fit: the tail, and no file beside it
+pub record FilesFit (v : View) (name : List ℕ) (tail : Option Tail) (greatest : ℕ) : Type 0 where
   pub tail_is : TailIs v name tail
   pub only : (id : FileId) → IsListed v (place name id) → IsTailOf tail id
   pub generations : (id : FileId) → IsListed v (place name id) → id.generation ≤ greatest
 
 -- and each image that a crash now may leave has the same parts
-abbrev pub IsHeld : View → List ℕ → Option Tail → Type 0
-IsHeld v name tail = EachHas v name (parts_in v.reading name tail)
+abbrev pub IsTailHeld : View → List ℕ → Option Tail → Type 0
+IsTailHeld v name tail = EachHas v name (tail_parts v.reading name tail)
 
-abbrev pub last_of : Option Tail → ℕ
-last_of None = 0
-last_of (Some tail) = tail.last
+-- the entries of a part stand in its file where these offsets say
+abbrev pub ArePlaced : View → List ℕ → FileId → Part → Offset_list → Type 0
+ArePlaced v name id part offsets = (bytes : List ℕ) → Reads v (place name id) bytes → StandAt bytes part offsets
+
+abbrev pub HasOffsets : View → List ℕ → Option Tail → Offset_list → Type 0
+HasOffsets v name None offsets = Unit {0}
+HasOffsets v name (Some tail) offsets = (part : Part) → folder name v.reading tail.id ≡ Whole part → ArePlaced v name tail.id part offsets
+
+-- ---- PARTS, as a whole
+
+-- the disk fits them: the files are these, and each entry stands where the offsets say
+pub record Fits (v : View) (parts : Parts) : Type 0 where
+  pub files : FilesFit v parts.name parts.tail parts.greatest
+  pub offsets : HasOffsets v parts.name parts.tail parts.offsets.items
+
+-- the parts that an image has
+abbrev pub parts_in : Image → Parts → List Part
+parts_in image parts = tail_parts image parts.name parts.tail
+
+-- each image that a crash now may leave has the same parts
+abbrev pub IsHeld : View → Parts → Type 0
+IsHeld v parts = IsTailHeld v parts.name parts.tail
+
+-- the index of the last entry, or 0
+abbrev pub last_of : Parts → ℕ
+last_of parts = tail_last parts.tail
+
+-- apart from room they are the same
+abbrev pub without_room : Parts → Parts
+without_room parts = record parts { offsets = record parts.offsets { spare = 0 } }
+
+-- the entry that has this index, or none has it
+abbrev pub IsEntryAt : Numbered → ℕ → Option Entry → Type 0
+IsEntryAt entries index None = (entry : Entry) → Contains entries (index, entry) → ⊥
+IsEntryAt entries index (Some entry) = Contains entries (index, entry)
+
+-- whatever the disk tells, an entry that is read is as one may be at its index
+abbrev pub MayBeRead : ℕ → Option Entry → Type 0
+MayBeRead index None = Unit {0}
+MayBeRead index (Some entry) = MayStandAt index entry
 
 -- an image stands for the log without the entry or with it
 abbrev pub StandsOrGains : List ℕ → List Entry → Entry → Image → Type 0

@@ -1,3 +1,4 @@
 pub mod Fits
 pub mod Growth
 pub mod Opening
+pub mod Tails

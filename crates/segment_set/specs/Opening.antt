@@ -4,13 +4,13 @@ use Rattle.std.specs.List.{AllPairs}
 use Rattle.disk_model.specs.declared.file_id.FileId.{FileId}
 use Rattle.disk_model.specs.Image.{Place, Image, place}
 use Rattle.disk_model.specs.View.{View, MayHold, MayLeave, IsListed, LeavesAt}
-use Rattle.segment_files.specs.Contents.{AreNumbered, Shows}
-use Rattle.segment_files.specs.Parse.{Numbered, Part, Closed, Whole, Damaged, base_place}
+use Rattle.segment_files.specs.Contents.{Offset_list, Shows, StandAt}
+use Rattle.segment_files.specs.Parse.{Part, Closed, Whole, Damaged, base_place}
 use Rattle.segment_files.specs.Folder.{Folder, folder}
 use Rattle.segment_set.specs.declared.opening.OpenError.{OpenError}
 use Rattle.segment_set.specs.declared.opening.OpenError.TheVariants.{Disk as Is_disk}
 use Rattle.segment_set.specs.declared.opened.Opened.{Opened}
-use Rattle.segment_set.specs.declared.parts.Tail.{Tail}
+use Rattle.segment_set.specs.declared.tail.Tail.{Tail}
 
 -- these files are listed, each once
 pub record AreListed (v : View) (name : List ℕ) (ids : List FileId) : Type 0 where
@@ -43,10 +43,16 @@ pub record Surveyed (files : Folder) (ids closed : List FileId) (opened : Option
   pub opened_among : (id : FileId) → opened ≡ Some id → Contains ids id
   pub opened_whole : (id : FileId) → opened ≡ Some id → (part : Part) × (files id ≡ Whole part)
 
+-- an open file of an image: its part, what the scan tells of it, and where its entries stand
+abbrev pub IsOpenIn : List ℕ → Image → Opened → Type 0
+IsOpenIn name image one =
+    (part : Part) × (folder name image one.id ≡ Whole part) × Shows one.part part
+    × ((bytes : List ℕ) → image (place name one.id) ≡ Some bytes → StandAt bytes part one.part.offsets.items)
+
 -- what one file was found to be
-abbrev pub IsLooked : Folder → FileId → Option Opened → Type 0
-IsLooked files id None = files id ≡ Closed
-IsLooked files id (Some opened) = (opened.id ≡ id) × ((part : Part) × (files id ≡ Whole part) × Shows opened.part part)
+abbrev pub IsLooked : List ℕ → Image → FileId → Option Opened → Type 0
+IsLooked name image id None = folder name image id ≡ Closed
+IsLooked name image id (Some one) = (one.id ≡ id) × IsOpenIn name image one
 
 -- why a file counts as damaged, and where: in itself, or as a second one with an open gate
 abbrev pub IsSeenDamaged : Folder → FileId → Bool → ℕ → Type 0
@@ -61,24 +67,14 @@ abbrev pub opened_id : Option Opened → Option FileId
 opened_id None = None
 opened_id (Some opened) = Some opened.id
 
-abbrev pub OpenedIs : Folder → Option Opened → Type 0
-OpenedIs files None = Unit {0}
-OpenedIs files (Some opened) = (part : Part) × (files opened.id ≡ Whole part) × Shows opened.part part
+abbrev pub OpenedIs : List ℕ → Image → Option Opened → Type 0
+OpenedIs name image None = Unit {0}
+OpenedIs name image (Some one) = IsOpenIn name image one
 
--- An open file hands its entries over, in the place of those before; a closed one leaves these.
-abbrev pub HandsOver : Option Opened → Numbered → Numbered → Type 0
-HandsOver None old new = new ≡ old
-HandsOver (Some one) old new = AreNumbered (one.id.base - 1) new × (length new ≡ one.part.entries)
-
--- these are the entries of the open file, as far as a disk that doesn't tell can show it
-abbrev pub AreHanded : Option Opened → Numbered → Type 0
-AreHanded None entries = entries ≡ []
-AreHanded (Some one) entries = AreNumbered (one.id.base - 1) entries × (length entries ≡ one.part.entries)
-
--- these are the entries of the open file, if there is one
-abbrev pub AreOpened : Folder → Option Opened → Numbered → Type 0
-AreOpened files None entries = Unit {0}
-AreOpened files (Some one) entries = (part : Part) → files one.id ≡ Whole part → part.entries ≡ entries
+-- the offsets of the open file, if there is one
+abbrev pub AreOffsetsOf : Option Opened → Offset_list → Type 0
+AreOffsetsOf None offsets = offsets ≡ []
+AreOffsetsOf (Some one) offsets = offsets ≡ one.part.offsets.items
 
 -- a file more: the open one, or closed
 abbrev pub Adds : FileId → Option Opened → List FileId → Option Opened → List FileId → Option Opened → Type 0

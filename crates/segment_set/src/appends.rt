@@ -1,20 +1,26 @@
 // A log gets one entry more, in its last file or in a new one.
-ghost use Rattle.std.specs.Prelude.{◌≡◌, ◌<◌, ◌≤◌, ◌+◌, ◌↔◌, ℕ, [], ◌∷◌, ◌++◌, Some, None, is_none, IsTrue, IsNone, IfSome, IfOk, OnOk};
+ghost use Rattle.std.specs.Prelude.{◌≡◌, ◌<◌, ◌≤◌, ◌+◌, ◌↔◌, ℕ, [], ◌∷◌, ◌++◌, Some, None, is_none, IsTrue, IsNone, IfSome, IfOk, OnOk, OnErr};
 ghost use Rattle.host_types.specs.Limits.{index_limit, last_limit};
 ghost use Rattle.host_types.specs.declared.entry.Entry.{Entry};
 ghost use Rattle.disk_model.specs.Image.{IsFileId, place};
 ghost use Rattle.disk_model.specs.View.{LeavesOnly, HasCause};
 ghost use Rattle.segment_files.specs.Files.{KeepsOthers};
-ghost use Rattle.segment_files.specs.Contents.{appended_descriptor, descriptor_bytes, frame_bytes};
+ghost use Rattle.segment_files.specs.Contents.{Offset_list, appended_descriptor, descriptor_bytes, frame_bytes};
+ghost use Rattle.offset_index.specs.Indexed.{MayFollow};
 ghost use Rattle.segment_files.specs.Parse.{Part, Whole};
 ghost use Rattle.segment_files.specs.Folder.{EachHas, folder};
 ghost use Rattle.segment_set.specs.Growth.{HasNoneOr, HasOrGains, new_tail};
-ghost use Rattle.segment_set.specs.Fits.{Fits, IsEmptyWhereNone, IsFirstTail, IsFrameFor, IsHeld, IsMade, IsTailAt, KeepsNames, StandsOrGains, TailFits, first_id, frame_size, gained, greatest_after, last_of, log_of, parts_in, with_entry};
+ghost use Rattle.segment_set.specs.Fits.{ArePlaced, FilesFit, Fits, IsEmptyWhereNone, IsFirstTail, IsFrameFor, IsHeld, IsMade, IsTailAt, KeepsNames, StandsOrGains, TailFits, first_id, frame_size, gained, greatest_after, last_of, log_of, parts_in, with_entry, without_room};
 
-use crate::parts::{GENERATION_LIMIT, Parts, Tail};
+use crate::parts::{GENERATION_LIMIT, Parts};
+use crate::tail::Tail;
 use disk_model::{Disk, DiskFault, FileId};
-use host_types::{Index, LogName};
+use host_types::{Index, LogName, NoMemory};
+use offset_index::Offsets;
 use segment_files::{Descriptor, append_frame, make_tail};
+
+/// What stands in front of the first entry of a frame: its gate, and the length of its body.
+const FRAME_HEAD: u64 = 5;
 
 /// What stands behind the gate of a new file: the rest of its descriptor, and a shut gate.
 fn behind_gate(id: FileId, size: u32) -> [u8; 64]
@@ -53,11 +59,13 @@ fn push_frame<D: Disk>(
     requires fits { IsTrue D.tells → TailFits (D.view disk.old) name.now tail }
     requires room { tail.last < last_limit }
     requires frame { (entry : Entry) × IsFrameFor tail.last frame.now entry }
-    ensures tail { IfOk result (λ next. (next.id ≡ tail.id) × (next.last ≡ tail.last + 1) × (next.size ≡ tail.size)) }
+    ensures tail { IfOk result (λ next. (next.id ≡ tail.id) × (next.last ≡ tail.last + 1) × (next.size ≡ tail.size) × (tail.gate + 6 ≤ next.gate)) }
     ensures grown { IfOk result (λ next. IsTrue D.tells → (part : Part) (entry : Entry) → folder name.now (D.view disk.old).reading tail.id ≡ Whole part → IsFrameFor tail.last frame.now entry
         → IsTailAt (D.view disk.new) name.now next (with_entry part entry)) }
     ensures any_moment { IsTrue D.tells → (part : Part) (entry : Entry) → folder name.now (D.view disk.old).reading tail.id ≡ Whole part → IsFrameFor tail.last frame.now entry
         → EachHas (D.view disk.old) name.now (part ∷ []) → LeavesOnly (D.view disk.old) (D.view disk.new) (HasOrGains name.now part ((part.last + 1, entry) ∷ []) (frame_size (part.last + 1) entry)) }
+    ensures placed { OnOk result (IsTrue D.tells → (part : Part) (entry : Entry) (offsets : Offset_list) → folder name.now (D.view disk.old).reading tail.id ≡ Whole part → IsFrameFor tail.last frame.now entry
+        → ArePlaced (D.view disk.old) name.now tail.id part offsets → ArePlaced (D.view disk.new) name.now tail.id (with_entry part entry) (offsets ++ (tail.last, tail.gate + 5) ∷ [])) }
     ensures held { OnOk result (IsTrue D.tells → (part : Part) (entry : Entry) → folder name.now (D.view disk.old).reading tail.id ≡ Whole part → IsFrameFor tail.last frame.now entry
         → EachHas (D.view disk.old) name.now (part ∷ []) → EachHas (D.view disk.new) name.now (with_entry part entry ∷ [])) }
     ensures others { IsTrue D.tells → KeepsOthers (D.view disk.old) (D.view disk.new) (place name.now tail.id) }
@@ -74,10 +82,22 @@ fn push_frame<D: Disk>(
     }
 }
 
+/// Notes where an entry stands, in room that was prepared.
+fn note(offsets: &mut Offsets, offset: u64, place: u64)
+    requires room { 1 ≤ offsets.old.spare }
+    requires rises { MayFollow offsets.old.items (offset, place) }
+    ensures { offsets.new.items ≡ offsets.old.items ++ (offset, place) ∷ [] }
+{
+    match offsets.push(offset, place) {
+        Ok(()) => {}
+        Err(_) => {}
+    }
+}
+
 impl Parts {
     /// The index of the last entry, or 0.
     pub fn last(&self) -> Index
-        ensures { result ≡ last_of self.now.tail }
+        ensures { result ≡ last_of self.now }
     {
         match self.tail {
             Some(tail) => tail.last,
@@ -104,15 +124,28 @@ impl Parts {
         }
     }
 
+    /// Makes room for noting where so many entries stand. After an error all is as before.
+    pub fn prepare_append(&mut self, count: u32) -> Result<(), NoMemory>
+        ensures ok { OnOk result (count ≤ self.new.offsets.spare) }
+        ensures same { without_room self.new ≡ without_room self.old }
+        ensures err { OnErr result (self.new ≡ self.old) }
+    {
+        match self.offsets.reserve(count as usize) {
+            Ok(()) => Ok(()),
+            Err(_) => Err(NoMemory),
+        }
+    }
+
     /// Makes the log's first file, with no entries, and takes it as its tail.
     fn begin<D: Disk>(&mut self, disk: &mut D, size: u32) -> Result<Tail, DiskFault>
-        requires fits { IsTrue D.tells → Fits (D.view disk.old) self.old.name self.old.tail self.old.greatest }
+        requires fits { IsTrue D.tells → FilesFit (D.view disk.old) self.old.name self.old.tail self.old.greatest }
         requires none { self.old.tail ≡ None }
         requires generation { self.old.greatest < index_limit }
         requires least { 2 ≤ size }
         requires most { size ≤ 65536 }
         ensures tail { IfOk result (λ tail. IsFirstTail tail (self.old.greatest + 1) size) }
         ensures name { self.new.name ≡ self.old.name }
+        ensures offsets { self.new.offsets ≡ self.old.offsets }
         ensures greatest { OnOk result (self.new.greatest ≡ self.old.greatest + 1) }
         ensures made { IfOk result (λ tail. IsTrue D.tells → IsTailAt (D.view disk.new) self.old.name tail (new_tail tail.id size)) }
         ensures any_moment { IsTrue D.tells → EachHas (D.view disk.old) self.old.name [] → LeavesOnly (D.view disk.old) (D.view disk.new) (HasNoneOr self.old.name (new_tail (first_id (self.old.greatest + 1)) size)) }
@@ -146,25 +179,27 @@ impl Parts {
         tail: Tail,
         frame: &[u8],
     ) -> Result<(), DiskFault>
-        requires fits { IsTrue D.tells → Fits (D.view disk.old) self.old.name self.old.tail self.old.greatest }
+        requires fits { IsTrue D.tells → Fits (D.view disk.old) self.old }
         requires tail { self.old.tail ≡ Some tail }
         requires room { tail.last < last_limit }
         requires frame { (entry : Entry) × IsFrameFor tail.last frame.now entry }
-        ensures parts { OnOk result (IsTrue D.tells → (size : ℕ) (entry : Entry) → IsFrameFor (last_of self.old.tail) frame.now entry
-            → parts_in (D.view disk.new).reading self.old.name self.new.tail ≡ gained size self.old.greatest (parts_in (D.view disk.old).reading self.old.name self.old.tail) entry) }
-        ensures fits { OnOk result (IsTrue D.tells → Fits (D.view disk.new) self.old.name self.new.tail self.new.greatest) }
-        ensures held { OnOk result (IsTrue D.tells → IsHeld (D.view disk.old) self.old.name self.old.tail → IsHeld (D.view disk.new) self.old.name self.new.tail) }
-        ensures last { OnOk result (last_of self.new.tail ≡ last_of self.old.tail + 1) }
+        requires prepared { 1 ≤ self.old.offsets.spare }
+        ensures parts { OnOk result (IsTrue D.tells → (size : ℕ) (entry : Entry) → IsFrameFor (last_of self.old) frame.now entry
+            → parts_in (D.view disk.new).reading self.new ≡ gained size self.old.greatest (parts_in (D.view disk.old).reading self.old) entry) }
+        ensures fits { OnOk result (IsTrue D.tells → Fits (D.view disk.new) self.new) }
+        ensures held { OnOk result (IsTrue D.tells → IsHeld (D.view disk.old) self.old → IsHeld (D.view disk.new) self.new) }
+        ensures last { OnOk result (last_of self.new ≡ last_of self.old + 1) }
         ensures greatest { OnOk result (self.new.greatest ≡ greatest_after self.old.tail self.old.greatest) }
-        ensures any_moment { IsTrue D.tells → IsHeld (D.view disk.old) self.old.name self.old.tail → (entry : Entry) → IsFrameFor (last_of self.old.tail) frame.now entry
-            → LeavesOnly (D.view disk.old) (D.view disk.new) (StandsOrGains self.old.name (log_of (parts_in (D.view disk.old).reading self.old.name self.old.tail)) entry) }
-        ensures empty { IsTrue D.tells → IsHeld (D.view disk.old) self.old.name self.old.tail → IsEmptyWhereNone (D.view disk.new) self.old.name }
+        ensures any_moment { IsTrue D.tells → IsHeld (D.view disk.old) self.old → (entry : Entry) → IsFrameFor (last_of self.old) frame.now entry
+            → LeavesOnly (D.view disk.old) (D.view disk.new) (StandsOrGains self.old.name (log_of (parts_in (D.view disk.old).reading self.old)) entry) }
+        ensures empty { IsTrue D.tells → IsHeld (D.view disk.old) self.old → IsEmptyWhereNone (D.view disk.new) self.old.name }
         ensures name { self.new.name ≡ self.old.name }
         ensures others { IsTrue D.tells → KeepsNames (D.view disk.old) (D.view disk.new) self.old.name }
         ensures cause { HasCause (D.faults disk.old) (D.faults disk.new) result }
     {
         match push_frame(disk, &self.name, tail, frame) {
             Ok(next) => {
+                note(&mut self.offsets, tail.last, tail.gate + FRAME_HEAD);
                 self.tail = Some(next);
                 Ok(())
             }
@@ -179,21 +214,22 @@ impl Parts {
         frame: &[u8],
         size: u32,
     ) -> Result<(), DiskFault>
-        requires fits { IsTrue D.tells → Fits (D.view disk.old) self.old.name self.old.tail self.old.greatest }
+        requires fits { IsTrue D.tells → Fits (D.view disk.old) self.old }
         requires none { self.old.tail ≡ None }
         requires generation { self.old.greatest < index_limit }
         requires least { 2 ≤ size }
         requires most { size ≤ 65536 }
         requires frame { (entry : Entry) × IsFrameFor 0 frame.now entry }
-        ensures parts { OnOk result (IsTrue D.tells → (entry : Entry) → IsFrameFor (last_of self.old.tail) frame.now entry
-            → parts_in (D.view disk.new).reading self.old.name self.new.tail ≡ gained size self.old.greatest (parts_in (D.view disk.old).reading self.old.name self.old.tail) entry) }
-        ensures fits { OnOk result (IsTrue D.tells → Fits (D.view disk.new) self.old.name self.new.tail self.new.greatest) }
-        ensures held { OnOk result (IsTrue D.tells → IsHeld (D.view disk.old) self.old.name self.old.tail → IsHeld (D.view disk.new) self.old.name self.new.tail) }
-        ensures last { OnOk result (last_of self.new.tail ≡ last_of self.old.tail + 1) }
+        requires prepared { 1 ≤ self.old.offsets.spare }
+        ensures parts { OnOk result (IsTrue D.tells → (entry : Entry) → IsFrameFor (last_of self.old) frame.now entry
+            → parts_in (D.view disk.new).reading self.new ≡ gained size self.old.greatest (parts_in (D.view disk.old).reading self.old) entry) }
+        ensures fits { OnOk result (IsTrue D.tells → Fits (D.view disk.new) self.new) }
+        ensures held { OnOk result (IsTrue D.tells → IsHeld (D.view disk.old) self.old → IsHeld (D.view disk.new) self.new) }
+        ensures last { OnOk result (last_of self.new ≡ last_of self.old + 1) }
         ensures greatest { OnOk result (self.new.greatest ≡ greatest_after self.old.tail self.old.greatest) }
-        ensures any_moment { IsTrue D.tells → IsHeld (D.view disk.old) self.old.name self.old.tail → (entry : Entry) → IsFrameFor (last_of self.old.tail) frame.now entry
-            → LeavesOnly (D.view disk.old) (D.view disk.new) (StandsOrGains self.old.name (log_of (parts_in (D.view disk.old).reading self.old.name self.old.tail)) entry) }
-        ensures empty { IsTrue D.tells → IsHeld (D.view disk.old) self.old.name self.old.tail → IsEmptyWhereNone (D.view disk.new) self.old.name }
+        ensures any_moment { IsTrue D.tells → IsHeld (D.view disk.old) self.old → (entry : Entry) → IsFrameFor (last_of self.old) frame.now entry
+            → LeavesOnly (D.view disk.old) (D.view disk.new) (StandsOrGains self.old.name (log_of (parts_in (D.view disk.old).reading self.old)) entry) }
+        ensures empty { IsTrue D.tells → IsHeld (D.view disk.old) self.old → IsEmptyWhereNone (D.view disk.new) self.old.name }
         ensures name { self.new.name ≡ self.old.name }
         ensures others { IsTrue D.tells → KeepsNames (D.view disk.old) (D.view disk.new) self.old.name }
         ensures cause { HasCause (D.faults disk.old) (D.faults disk.new) result }
@@ -204,6 +240,7 @@ impl Parts {
         };
         match push_frame(disk, &self.name, tail, frame) {
             Ok(next) => {
+                note(&mut self.offsets, tail.last, tail.gate + FRAME_HEAD);
                 self.tail = Some(next);
                 Ok(())
             }
@@ -212,28 +249,30 @@ impl Parts {
     }
 
     /// Appends a frame with the next entry, which has the shut gate behind it as its last byte. Where there is no file yet, it makes one of this size first, with the next
-    /// generation. A crash at any moment leaves the log without the entry or with it; from an Ok on it is there.
+    /// generation. A crash at any moment leaves the log without the entry or with it; from an Ok on it is there. Room for it was made
+    /// by `prepare_append`.
     pub fn append<D: Disk>(
         &mut self,
         disk: &mut D,
         frame: &[u8],
         size: u32,
     ) -> Result<(), DiskFault>
-        requires fits { IsTrue D.tells → Fits (D.view disk.old) self.old.name self.old.tail self.old.greatest }
-        requires room { last_of self.old.tail < last_limit }
+        requires fits { IsTrue D.tells → Fits (D.view disk.old) self.old }
+        requires room { last_of self.old < last_limit }
         requires generation { self.old.tail ≡ None → self.old.greatest < index_limit }
         requires least { 2 ≤ size }
         requires most { size ≤ 65536 }
-        requires frame { (entry : Entry) × IsFrameFor (last_of self.old.tail) frame.now entry }
-        ensures parts { OnOk result (IsTrue D.tells → (entry : Entry) → IsFrameFor (last_of self.old.tail) frame.now entry
-            → parts_in (D.view disk.new).reading self.old.name self.new.tail ≡ gained size self.old.greatest (parts_in (D.view disk.old).reading self.old.name self.old.tail) entry) }
-        ensures fits { OnOk result (IsTrue D.tells → Fits (D.view disk.new) self.old.name self.new.tail self.new.greatest) }
-        ensures held { OnOk result (IsTrue D.tells → IsHeld (D.view disk.old) self.old.name self.old.tail → IsHeld (D.view disk.new) self.old.name self.new.tail) }
-        ensures last { OnOk result (last_of self.new.tail ≡ last_of self.old.tail + 1) }
+        requires frame { (entry : Entry) × IsFrameFor (last_of self.old) frame.now entry }
+        requires prepared { 1 ≤ self.old.offsets.spare }
+        ensures parts { OnOk result (IsTrue D.tells → (entry : Entry) → IsFrameFor (last_of self.old) frame.now entry
+            → parts_in (D.view disk.new).reading self.new ≡ gained size self.old.greatest (parts_in (D.view disk.old).reading self.old) entry) }
+        ensures fits { OnOk result (IsTrue D.tells → Fits (D.view disk.new) self.new) }
+        ensures held { OnOk result (IsTrue D.tells → IsHeld (D.view disk.old) self.old → IsHeld (D.view disk.new) self.new) }
+        ensures last { OnOk result (last_of self.new ≡ last_of self.old + 1) }
         ensures greatest { OnOk result (self.new.greatest ≡ greatest_after self.old.tail self.old.greatest) }
-        ensures any_moment { IsTrue D.tells → IsHeld (D.view disk.old) self.old.name self.old.tail → (entry : Entry) → IsFrameFor (last_of self.old.tail) frame.now entry
-            → LeavesOnly (D.view disk.old) (D.view disk.new) (StandsOrGains self.old.name (log_of (parts_in (D.view disk.old).reading self.old.name self.old.tail)) entry) }
-        ensures empty { IsTrue D.tells → IsHeld (D.view disk.old) self.old.name self.old.tail → IsEmptyWhereNone (D.view disk.new) self.old.name }
+        ensures any_moment { IsTrue D.tells → IsHeld (D.view disk.old) self.old → (entry : Entry) → IsFrameFor (last_of self.old) frame.now entry
+            → LeavesOnly (D.view disk.old) (D.view disk.new) (StandsOrGains self.old.name (log_of (parts_in (D.view disk.old).reading self.old)) entry) }
+        ensures empty { IsTrue D.tells → IsHeld (D.view disk.old) self.old → IsEmptyWhereNone (D.view disk.new) self.old.name }
         ensures name { self.new.name ≡ self.old.name }
         ensures others { IsTrue D.tells → KeepsNames (D.view disk.old) (D.view disk.new) self.old.name }
         ensures cause { HasCause (D.faults disk.old) (D.faults disk.new) result }

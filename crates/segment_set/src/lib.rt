@@ -5,7 +5,10 @@ mod appends;
 mod opened;
 mod opening;
 mod parts;
+mod reads;
 mod removals;
+mod tail;
 
 pub use opening::OpenError;
-pub use parts::{GENERATION_LIMIT, Parts, Tail};
+pub use parts::{GENERATION_LIMIT, Parts};
+pub use tail::Tail;

@@ -6,16 +6,19 @@ ghost use Rattle.disk_model.specs.Image.{IsFileId, place};
 ghost use Rattle.disk_model.specs.View.{LeavesAt, LeavesOnly, MayHold, IsListed};
 ghost use Rattle.disk_model.specs.Calls.{Lists, Stays};
 ghost use Rattle.segment_files.specs.Parse.{base_place};
-ghost use Rattle.segment_files.specs.Contents.{AreNumbered};
-ghost use Rattle.segment_files.specs.Folder.{folder, entries_of, IsChoice, IsFault, IsFirstDamaged, StandsForPrefix};
-ghost use Rattle.segment_set.specs.Fits.{Fits, IsEmptyWhereNone, IsHeld, IsInOrder, KeepsNames, last_of, parts_in};
-ghost use Rattle.segment_set.specs.Opening.{Adds, AreHanded, AreOpened, HandsOver, HasOpenCause, IsGreatestListed, IsLooked, IsOf, IsSeenDamaged, IsTailFound, OpenedIs, Surveyed, id_from, opened_id};
+ghost use Rattle.segment_files.specs.Folder.{folder, IsChoice, IsFault, IsFirstDamaged, StandsForPrefix};
+ghost use Rattle.segment_set.specs.Fits.{Fits, IsEmptyWhereNone, IsHeld, IsInOrder, KeepsNames, parts_in};
+ghost use Rattle.segment_files.specs.Contents.{AreBelow};
+ghost use Rattle.segment_set.specs.Tails.{tail_gate, tail_last};
+ghost use Rattle.segment_set.specs.Opening.{Adds, AreOffsetsOf, HasOpenCause, IsGreatestListed, IsLooked, IsOf, IsSeenDamaged, IsTailFound, OpenedIs, Surveyed, id_from, opened_id};
 
 use crate::opened::Opened;
-use crate::parts::{Parts, Tail};
+use crate::parts::Parts;
 use crate::removals::remove_all;
+use crate::tail::Tail;
 use disk_model::{Disk, DiskFault, FileId};
-use host_types::{Entry, Index, LogName, NoMemory};
+use host_types::{LogName, NoMemory};
+use offset_index::Offsets;
 use segment_files::{FileFault, Found, scan, settle_all};
 use std::alloc::Global;
 
@@ -80,21 +83,17 @@ fn disk_error(fault: DiskFault) -> OpenError
     }
 }
 
-/// Reads one file: its part, whose entries are put into `entries`, or none where it is closed. A second open file counts
-/// as damaged at its base.
+/// Reads one file: its part, or none where it is closed. A second open file counts as damaged at its base.
 fn look<D: Disk>(
     alloc: Global,
     disk: &mut D,
     name: &LogName,
     id: FileId,
     has_open: bool,
-    entries: &mut Vec<(Index, Entry)>,
 ) -> Result<Option<Opened>, OpenError>
     requires id { IsFileId id }
     requires listed { IsTrue D.tells → IsListed (D.view disk.old) (place name.now id) }
-    ensures looked { IfOk result (λ opened. IsTrue D.tells → IsLooked (folder name.now (D.view disk.old).reading) id opened) }
-    ensures handed { IfOk result (λ opened. HandsOver opened entries.old.items entries.new.items) }
-    ensures read { IfOk result (λ opened. IsTrue D.tells → AreOpened (folder name.now (D.view disk.old).reading) opened entries.new.items) }
+    ensures looked { IfOk result (λ opened. IsTrue D.tells → IsLooked name.now (D.view disk.old).reading id opened) }
     ensures second { IsTrue has_open → IfOk result (λ opened. opened ≡ None) }
     ensures damaged { (base generation at : ℕ) → IsErrOf result (OpenError.Damaged base generation at)
         → IsOf base generation id × (IsTrue D.tells → IsSeenDamaged (folder name.now (D.view disk.old).reading) id has_open at) }
@@ -102,10 +101,11 @@ fn look<D: Disk>(
     ensures any_moment { IsTrue D.tells → LeavesAt (D.view disk.old) (D.view disk.new) (MayHold (D.view disk.old)) }
     ensures cause { HasOpenCause (D.faults disk.old) (D.faults disk.new) result }
 {
-    match scan(alloc, disk, name, id, entries) {
+    match scan(alloc, disk, name, id) {
         Ok(Found::Closed) => Ok(None),
         Ok(Found::Part(part)) => {
             if has_open {
+                drop(part);
                 return Err(damaged(id, BASE_PLACE));
             }
             Ok(Some(Opened { id, part }))
@@ -116,21 +116,17 @@ fn look<D: Disk>(
     }
 }
 
-/// Reads all files of a name, one after the other, and puts the entries of the open one into `entries`.
+/// Reads all files of a name, one after the other.
 fn read_all<D: Disk>(
     alloc: Global,
     disk: &mut D,
     name: &LogName,
     ids: &[FileId],
-    entries: &mut Vec<(Index, Entry)>,
 ) -> Result<Survey, OpenError>
     requires ids { All IsFileId ids.now }
-    requires none { entries.old.items ≡ [] }
     requires lists { IsTrue D.tells → Lists (D.view disk.old) name.now ids.now }
     ensures surveyed { IfOk result (λ found. IsTrue D.tells → Surveyed (folder name.now (D.view disk.old).reading) ids.now found.closed.items (opened_id found.opened)) }
-    ensures opened { IfOk result (λ found. IsTrue D.tells → OpenedIs (folder name.now (D.view disk.old).reading) found.opened) }
-    ensures handed { IfOk result (λ found. AreHanded found.opened entries.new.items) }
-    ensures read { IfOk result (λ found. IsTrue D.tells → AreOpened (folder name.now (D.view disk.old).reading) found.opened entries.new.items) }
+    ensures opened { IfOk result (λ found. IsTrue D.tells → OpenedIs name.now (D.view disk.old).reading found.opened) }
     ensures closed { IfOk result (λ found. All IsFileId found.closed.items) }
     ensures damaged { (base generation at : ℕ) → IsErrOf result (OpenError.Damaged base generation at)
         → IsTrue D.tells → IsFirstDamaged (folder name.now (D.view disk.old).reading) (id_from base generation) at }
@@ -143,7 +139,7 @@ fn read_all<D: Disk>(
         closed: Vec::new(alloc),
     };
     for id in ids {
-        let one = match look(alloc, disk, name, *id, found.opened.is_some(), entries) {
+        let one = match look(alloc, disk, name, *id, found.opened.is_some()) {
             Ok(one) => one,
             Err(error) => return Err(error),
         };
@@ -155,25 +151,31 @@ fn read_all<D: Disk>(
     Ok(found)
 }
 
-/// The open file as the tail of a log. It has to begin with the first entry.
-fn tail_of(opened: Option<Opened>) -> Result<Option<Tail>, OpenError>
-    ensures ok { IfOk result (λ tail. IsTailFound opened tail) }
+/// The open file as the tail of a log, with the offsets of its entries. It has to begin with the first entry.
+fn tail_of(alloc: Global, opened: Option<Opened>) -> Result<(Option<Tail>, Offsets), OpenError>
+    ensures ok { IfOk result (λ found. IsTailFound opened found.0) }
+    ensures offsets { IfOk result (λ found. AreOffsetsOf opened found.1.items) }
+    ensures counted { IfOk result (λ found. length found.1.items ≡ tail_last found.0) }
+    ensures below { IfOk result (λ found. AreBelow found.1.items (tail_gate found.0)) }
     ensures damaged { (base generation at : ℕ) → IsErrOf result (OpenError.Damaged base generation at)
         → (one : Opened) × (opened ≡ Some one) × IsOf base generation one.id × (at ≡ base_place) × (one.id.base ≢ 1) }
     ensures disk { IsErrOf result OpenError.Disk → ⊥ }
 {
     let Some(one) = opened else {
-        return Ok(None);
+        return Ok((None, Offsets::new(alloc)));
     };
-    if one.id.base != 1 {
-        return Err(damaged(one.id, BASE_PLACE));
+    let Opened { id, part } = one;
+    if id.base != 1 {
+        drop(part);
+        return Err(damaged(id, BASE_PLACE));
     }
-    Ok(Some(Tail {
-        id: one.id,
-        last: one.part.last,
-        gate: one.part.gate,
-        size: one.part.descriptor.size,
-    }))
+    let tail = Tail {
+        id,
+        last: part.last,
+        gate: part.gate,
+        size: part.descriptor.size,
+    };
+    Ok((Some(tail), part.offsets))
 }
 
 /// The greatest generation of these files, or 0.
@@ -193,25 +195,14 @@ fn greatest_of(ids: &[FileId]) -> u64
 impl Parts {
     /// Opens the log of a name: lists its files, syncs each, reads them all, and removes those whose gate isn't open. What is
     /// read after the syncs is what every crash leaves from then on. Where it answers `Damaged` no file has been removed.
-    /// The log's entries are put into `entries`, which has none before, in order; each was decoded once.
-    pub fn load<D: Disk>(
-        alloc: Global,
-        disk: &mut D,
-        name: &LogName,
-        entries: &mut Vec<(Index, Entry)>,
-    ) -> Result<Parts, OpenError>
-        requires none { entries.old.items ≡ [] }
+    /// Of each entry it keeps where it stands, in two words.
+    pub fn load<D: Disk>(alloc: Global, disk: &mut D, name: &LogName) -> Result<Parts, OpenError>
         ensures name { IfOk result (λ parts. parts.name ≡ name.now) }
         // What was read is what is held, with no closed file beside it.
-        ensures fits { IfOk result (λ parts. IsTrue D.tells → Fits (D.view disk.new) name.now parts.tail parts.greatest) }
-        ensures choice { IfOk result (λ parts. IsTrue D.tells → IsChoice (folder name.now (D.view disk.old).reading) (parts_in (D.view disk.new).reading name.now parts.tail)) }
-        ensures held { IfOk result (λ parts. IsTrue D.tells → IsEmptyWhereNone (D.view disk.old) name.now → IsHeld (D.view disk.new) name.now parts.tail) }
+        ensures fits { IfOk result (λ parts. IsTrue D.tells → Fits (D.view disk.new) parts) }
+        ensures choice { IfOk result (λ parts. IsTrue D.tells → IsChoice (folder name.now (D.view disk.old).reading) (parts_in (D.view disk.new).reading parts)) }
+        ensures held { IfOk result (λ parts. IsTrue D.tells → IsEmptyWhereNone (D.view disk.old) name.now → IsHeld (D.view disk.new) parts) }
         ensures greatest { IfOk result (λ parts. IsTrue D.tells → IsGreatestListed (D.view disk.old) name.now parts.greatest) }
-
-        // The entries of the parts; over every disk each is as one may be, and they end where the parts do.
-        ensures entries { IfOk result (λ parts. IsTrue D.tells → entries_of (parts_in (D.view disk.new).reading name.now parts.tail) ≡ entries.new.items) }
-        ensures numbered { OnOk result (AreNumbered 0 entries.new.items) }
-        ensures last { IfOk result (λ parts. last_of parts.tail ≡ length entries.new.items) }
 
         // A damaged file is named by its cause and with its place, and the files are as they were.
         ensures damaged { (base generation at : ℕ) → IsErrOf result (OpenError.Damaged base generation at)
@@ -231,18 +222,20 @@ impl Parts {
             Ok(ids) => ids,
             Err(fault) => return Err(disk_error(fault)),
         };
-        let found = match read_all(alloc, disk, name, &ids, entries) {
+        let found = match read_all(alloc, disk, name, &ids) {
             Ok(found) => found,
             Err(error) => return Err(error),
         };
-        let tail = match tail_of(found.opened) {
-            Ok(tail) => tail,
+        let Survey { opened, closed } = found;
+        let (tail, offsets) = match tail_of(alloc, opened) {
+            Ok(found) => found,
             Err(error) => return Err(error),
         };
-        match remove_all(disk, name, &found.closed) {
+        match remove_all(disk, name, &closed) {
             Ok(()) => Ok(Parts {
                 name: *name,
                 tail,
+                offsets,
                 greatest: greatest_of(&ids),
             }),
             Err(fault) => Err(disk_error(fault)),

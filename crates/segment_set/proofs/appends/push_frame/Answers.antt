@@ -1,9 +1,9 @@
-use Rattle.std.proofs.Common.{◌≡◌, ◌+◌, ℕ, sym, subst, ◌∙◌, arith}
+use Rattle.std.proofs.Common.{◌≡◌, refl, ◌+◌, ℕ, sym, subst, ◌∙◌, arith}
 use Rattle.disk_model.specs.Image.{place}
 use Rattle.segment_files.specs.Files.{IsAtGate}
 use Rattle.segment_set.specs.Fits.{frame_size}
-use Rattle.segment_set.proofs.Frames.{behind, behind_is, frame_long, frame_short}
-use Rattle.segment_set.proofs.Pushing.{push_left, push_held, push_reads, push_gate, push_last, push_size, push_end}
+use Rattle.segment_set.proofs.Frames.{behind, behind_is, frame_least, frame_long, frame_short}
+use Rattle.segment_set.proofs.Pushing.{push_left, push_held, push_reads, push_gate, push_last, push_size, push_end, push_placed}
 use Rattle.segment_set.proofs.appends.push_frame.Goals as goal
 
 pub append_frame-requires-clause-at_gate : goal.append_frame-requires-clause-at_gate
@@ -56,3 +56,13 @@ pub returns-in-Err-clause-any_moment : goal.returns-in-Err-clause-any_moment
 returns-in-Err-clause-any_moment g c = λ t part entry whole f each.
     push_left (g.D.Disk.view c.args.disk.now) (g.D.Disk.view c.append_frame.new.disk) c.args.name.now c.args.tail part c.args.frame.now entry (g.met.D.Disk.sound c.args.disk.now t) (c.requires.fits t) whole c.requires.room f each
     (c.append_frame.ensures.any_moment t (behind c.args.tail.last entry) (behind_is c.args.tail.last c.args.frame.now entry f))
+
+pub returns-in-Ok-clause-tail : goal.returns-in-Ok-clause-tail
+returns-in-Ok-clause-tail g c =
+    let least = frame_least c.args.tail.last c.args.frame.now c.requires.frame.0 c.requires.room c.requires.frame.1 in
+    (refl, refl, refl, omega (arith, least, c.in-Ok.ensures.gate))
+
+pub returns-in-Ok-clause-placed : goal.returns-in-Ok-clause-placed
+returns-in-Ok-clause-placed g c = λ t part entry offsets whole f placed.
+    push_placed (g.D.Disk.view c.args.disk.now) (g.D.Disk.view c.append_frame.new.disk) c.args.name.now c.args.tail part c.args.frame.now entry (g.met.D.Disk.sound c.args.disk.now t) (c.requires.fits t) whole c.requires.room f
+    (λ b reads. c.in-Ok.ensures.appended t b (behind c.args.tail.last entry) (behind_is c.args.tail.last c.args.frame.now entry f) reads) offsets placed

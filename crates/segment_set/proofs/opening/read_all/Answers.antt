@@ -9,7 +9,6 @@ use Rattle.disk_model.proofs.Moments.{started}
 use Rattle.segment_files.specs.Folder.{folder, IsFirstDamaged}
 use Rattle.segment_set.specs.Opening.{Surveyed, opened_id}
 use Rattle.segment_set.proofs.Surveying.{none_surveyed}
-use Rattle.segment_set.proofs.Handing.{handed_on, read_on}
 use Rattle.segment_set.proofs.Turns.{SurveyIs, listed_now, left_further, damaged_first, turned, found_id, ids_more}
 use Rattle.segment_set.proofs.opening.read_all.Goals as goal
 
@@ -23,8 +22,6 @@ loop-id-init g c =
       reading = λ t. refl;
       left = λ t. started v0 (λ c'. (q : Place) → MayHold v0 q (c' q)) (g.met.D.Disk.sound c.args.disk.now t) (λ c' may. may);
       survey = λ t. subst (λ (l : List FileId). SurveyIs v0 c.args.name.now [] l None) (sym c.new.ensures.items) (none_surveyed (folder c.args.name.now v0.reading), tt {0});
-      handed = c.requires.none;
-      read = λ t. tt;
       closed = subst (λ (l : List FileId). All IsFileId l) (sym c.new.ensures.items) (λ k d lt. absurd (omega (arith, lt)));
       faults = omega arith;
     }
@@ -64,9 +61,6 @@ loop-id-preserved g c =
       survey = λ t. turned v0 v c.args.name.now ids (c.requires.lists t) (c.loop-id.invariant.reading t) n no_id lt
           c.loop-id.found.closed.items _ c.loop-id.found.opened _ (c.loop-id.invariant.survey t)
           c.in-Ok.one (c.in-Ok.ensures.looked t) c.is_some.result c.is_some.ensures c.in-Ok.ensures.second c.in-Ok-add.ensures;
-      handed = handed_on (get_or ids n no_id) c.in-Ok.one c.loop-id.found.closed.items c.loop-id.found.opened _ _ c.loop-id.entries.items c.look.new.entries.items c.loop-id.invariant.handed c.in-Ok.ensures.handed c.in-Ok-add.ensures;
-      read = λ t. read_on (folder c.args.name.now v0.reading) (folder c.args.name.now v.reading) (ap (folder c.args.name.now) (c.loop-id.invariant.reading t)) (get_or ids n no_id) c.in-Ok.one c.loop-id.found.closed.items c.loop-id.found.opened _ _
-          c.loop-id.entries.items c.look.new.entries.items (c.loop-id.invariant.read t) c.in-Ok.ensures.handed (c.in-Ok.ensures.read t) c.in-Ok-add.ensures;
       closed = ids_more ids n no_id lt c.requires.ids c.loop-id.found.closed.items c.loop-id.found.opened _ _ c.in-Ok.one c.loop-id.invariant.closed c.in-Ok-add.ensures;
       faults = omega (arith, c.loop-id.invariant.faults, c.look.ensures.cause.later);
     }

@@ -9,8 +9,7 @@ use Rattle.segment_set.specs.declared.opening.OpenError.TheVariants.{Damaged}
 use Rattle.segment_set.specs.Opening.{AreListed, OpenedIs, OrGone, Surveyed, id_from, opened_id}
 use Rattle.segment_set.proofs.Picking.{in_order, like_at_first, like_still, like_removed}
 use Rattle.segment_set.proofs.Loading.{closed_listed}
-use Rattle.segment_set.proofs.Handing.{last_handed, numbered_handed}
-use Rattle.segment_set.proofs.Loaded.{opens_by, loaded_choice, loaded_entries, loaded_fits, loaded_held, loaded_greatest, unbased}
+use Rattle.segment_set.proofs.Loaded.{opens_by, loaded_choice, loaded_fits, loaded_offsets, loaded_held, loaded_greatest, unbased}
 use Rattle.segment_set.proofs.Turns.{closed_then, found_id, listed_again}
 use Rattle.segment_set.proofs.Emptied.{empty_stays, emptied}
 use Rattle.segment_set.proofs.Faultless.{surveyed_no_fault}
@@ -61,7 +60,7 @@ returns-in-Err-tail_of-clause-damaged g c = λ base generation at is.
           (unbased v0 v1 name c.in-Ok.ids.items found.closed.items told.0 (c.in-Ok.ensures.lists t) (c.settle_all.ensures.reading t)
           (subst (λ (o : Option Opened). Surveyed (folder name v1.reading) c.in-Ok.ids.items found.closed.items (opened_id o)) told.1
           (subst (λ (l : List FileId). Surveyed (folder name v1.reading) l found.closed.items (opened_id found.opened)) c.deref.ensures.value (c.in-Ok-read_all.ensures.surveyed t)))
-          (subst (λ (o : Option Opened). OpenedIs (folder name v1.reading) o) told.1 (c.in-Ok-read_all.ensures.opened t))
+          (subst (λ (o : Option Opened). OpenedIs name v1.reading o) told.1 (c.in-Ok-read_all.ensures.opened t))
           told.4)),
       c.read_all.ensures.reading t ∙ c.settle_all.ensures.reading t,
     )
@@ -98,8 +97,11 @@ returns-in-Ok-remove_all-clause-fits g c = λ t.
     (c.in-Ok.ensures.lists t) (c.settle_all.ensures.reading t) (c.in-Ok.ensures.settled t) (c.in-Ok.ensures.names t) (c.settle_all.ensures.any_moment t) (c.read_all.ensures.reading t) (c.read_all.ensures.any_moment t)
     (c.in-Ok-read_all.ensures.surveyed t) (c.remove_all.ensures.any_moment t) (c.in-Ok-remove_all.ensures.gone t) (c.remove_all.ensures.others t)
     (g.met.D.Disk.sound c.settle_all.new.disk t) (g.met.D.Disk.sound c.read_all.new.disk t) (g.met.D.Disk.sound c.remove_all.new.disk t) in
-    loaded_fits v0 v1 v2 v3 name items found.closed.items found.opened c.in-Ok-tail_of.tail (opens, c.in-Ok-read_all.ensures.opened t, c.in-Ok-tail_of.ensures.ok) c.greatest_of.result
-    (λ id has. c.greatest_of.ensures.above id (subst (λ (l : List FileId). Contains l id) (sym c.deref-in-Ok-remove_all.ensures.value) has))
+    record {
+      files = loaded_fits v0 v1 v2 v3 name items found.closed.items found.opened c.in-Ok-tail_of.found.0 (opens, c.in-Ok-read_all.ensures.opened t, c.in-Ok-tail_of.ensures.ok) c.greatest_of.result
+          (λ id has. c.greatest_of.ensures.above id (subst (λ (l : List FileId). Contains l id) (sym c.deref-in-Ok-remove_all.ensures.value) has));
+      offsets = loaded_offsets v0 v1 v2 v3 name items found.closed.items found.opened c.in-Ok-tail_of.found.0 (opens, c.in-Ok-read_all.ensures.opened t, c.in-Ok-tail_of.ensures.ok) c.in-Ok-tail_of.found.1.items c.in-Ok-tail_of.ensures.offsets;
+    }
 
 pub returns-in-Ok-remove_all-clause-choice : goal.returns-in-Ok-remove_all-clause-choice
 returns-in-Ok-remove_all-clause-choice g c = λ t.
@@ -114,28 +116,7 @@ returns-in-Ok-remove_all-clause-choice g c = λ t.
     (c.in-Ok.ensures.lists t) (c.settle_all.ensures.reading t) (c.in-Ok.ensures.settled t) (c.in-Ok.ensures.names t) (c.settle_all.ensures.any_moment t) (c.read_all.ensures.reading t) (c.read_all.ensures.any_moment t)
     (c.in-Ok-read_all.ensures.surveyed t) (c.remove_all.ensures.any_moment t) (c.in-Ok-remove_all.ensures.gone t) (c.remove_all.ensures.others t)
     (g.met.D.Disk.sound c.settle_all.new.disk t) (g.met.D.Disk.sound c.read_all.new.disk t) (g.met.D.Disk.sound c.remove_all.new.disk t) in
-    loaded_choice v0 v1 v2 v3 name items found.closed.items found.opened c.in-Ok-tail_of.tail (opens, c.in-Ok-read_all.ensures.opened t, c.in-Ok-tail_of.ensures.ok)
-
-pub returns-in-Ok-remove_all-clause-entries : goal.returns-in-Ok-remove_all-clause-entries
-returns-in-Ok-remove_all-clause-entries g c = λ t.
-    let v0 = g.D.Disk.view c.args.disk.now in
-    let v1 = g.D.Disk.view c.settle_all.new.disk in
-    let v2 = g.D.Disk.view c.read_all.new.disk in
-    let v3 = g.D.Disk.view c.remove_all.new.disk in
-    let name = c.args.name.now in
-    let items = c.in-Ok.ids.items in
-    let found = c.in-Ok-read_all.found in
-    let opens = opens_by v0 v1 v2 v3 name items c.deref.result.now found.closed.items c.deref-2.result.now (opened_id found.opened) c.deref.ensures.value c.deref-2.ensures.value
-    (c.in-Ok.ensures.lists t) (c.settle_all.ensures.reading t) (c.in-Ok.ensures.settled t) (c.in-Ok.ensures.names t) (c.settle_all.ensures.any_moment t) (c.read_all.ensures.reading t) (c.read_all.ensures.any_moment t)
-    (c.in-Ok-read_all.ensures.surveyed t) (c.remove_all.ensures.any_moment t) (c.in-Ok-remove_all.ensures.gone t) (c.remove_all.ensures.others t)
-    (g.met.D.Disk.sound c.settle_all.new.disk t) (g.met.D.Disk.sound c.read_all.new.disk t) (g.met.D.Disk.sound c.remove_all.new.disk t) in
-    loaded_entries v0 v1 v2 v3 name items found.closed.items found.opened c.in-Ok-tail_of.tail (opens, c.in-Ok-read_all.ensures.opened t, c.in-Ok-tail_of.ensures.ok) c.read_all.new.entries.items c.in-Ok-read_all.ensures.handed (c.in-Ok-read_all.ensures.read t)
-
-pub returns-in-Ok-remove_all-clause-numbered : goal.returns-in-Ok-remove_all-clause-numbered
-returns-in-Ok-remove_all-clause-numbered g c = numbered_handed c.in-Ok-read_all.found.opened c.in-Ok-tail_of.tail c.read_all.new.entries.items c.in-Ok-tail_of.ensures.ok c.in-Ok-read_all.ensures.handed
-
-pub returns-in-Ok-remove_all-clause-last : goal.returns-in-Ok-remove_all-clause-last
-returns-in-Ok-remove_all-clause-last g c = last_handed c.in-Ok-read_all.found.opened c.in-Ok-tail_of.tail c.read_all.new.entries.items c.in-Ok-tail_of.ensures.ok c.in-Ok-read_all.ensures.handed
+    loaded_choice v0 v1 v2 v3 name items found.closed.items found.opened c.in-Ok-tail_of.found.0 (opens, c.in-Ok-read_all.ensures.opened t, c.in-Ok-tail_of.ensures.ok)
 
 pub returns-in-Ok-remove_all-clause-held : goal.returns-in-Ok-remove_all-clause-held
 returns-in-Ok-remove_all-clause-held g c = λ t empty.
@@ -150,7 +131,7 @@ returns-in-Ok-remove_all-clause-held g c = λ t empty.
     (c.in-Ok.ensures.lists t) (c.settle_all.ensures.reading t) (c.in-Ok.ensures.settled t) (c.in-Ok.ensures.names t) (c.settle_all.ensures.any_moment t) (c.read_all.ensures.reading t) (c.read_all.ensures.any_moment t)
     (c.in-Ok-read_all.ensures.surveyed t) (c.remove_all.ensures.any_moment t) (c.in-Ok-remove_all.ensures.gone t) (c.remove_all.ensures.others t)
     (g.met.D.Disk.sound c.settle_all.new.disk t) (g.met.D.Disk.sound c.read_all.new.disk t) (g.met.D.Disk.sound c.remove_all.new.disk t) in
-    loaded_held v0 v1 v2 v3 name items found.closed.items found.opened c.in-Ok-tail_of.tail (opens, c.in-Ok-read_all.ensures.opened t, c.in-Ok-tail_of.ensures.ok) empty
+    loaded_held v0 v1 v2 v3 name items found.closed.items found.opened c.in-Ok-tail_of.found.0 (opens, c.in-Ok-read_all.ensures.opened t, c.in-Ok-tail_of.ensures.ok) empty
 
 pub returns-in-Ok-remove_all-clause-greatest : goal.returns-in-Ok-remove_all-clause-greatest
 returns-in-Ok-remove_all-clause-greatest g c = λ t.
@@ -247,7 +228,7 @@ returns-in-Ok-remove_all-clause-unharmed g c = λ t id at fault.
     let v0 = g.D.Disk.view c.args.disk.now in
     let v1 = g.D.Disk.view c.settle_all.new.disk in
     let found = c.in-Ok-read_all.found in
-    absurd (surveyed_no_fault v0 v1 c.args.name.now c.in-Ok.ids.items found.closed.items found.opened c.in-Ok-tail_of.tail id at (c.in-Ok.ensures.lists t) (c.settle_all.ensures.reading t)
+    absurd (surveyed_no_fault v0 v1 c.args.name.now c.in-Ok.ids.items found.closed.items found.opened c.in-Ok-tail_of.found.0 id at (c.in-Ok.ensures.lists t) (c.settle_all.ensures.reading t)
     (subst (λ (l : List FileId). Surveyed (folder c.args.name.now v1.reading) l found.closed.items (opened_id found.opened)) c.deref.ensures.value (c.in-Ok-read_all.ensures.surveyed t))
     (c.in-Ok-read_all.ensures.opened t) c.in-Ok-tail_of.ensures.ok fault)
 
@@ -256,7 +237,7 @@ returns-clause-unharmed g c = λ t id at fault.
     let v0 = g.D.Disk.view c.args.disk.now in
     let v1 = g.D.Disk.view c.settle_all.new.disk in
     let found = c.in-Ok-read_all.found in
-    absurd (surveyed_no_fault v0 v1 c.args.name.now c.in-Ok.ids.items found.closed.items found.opened c.in-Ok-tail_of.tail id at (c.in-Ok.ensures.lists t) (c.settle_all.ensures.reading t)
+    absurd (surveyed_no_fault v0 v1 c.args.name.now c.in-Ok.ids.items found.closed.items found.opened c.in-Ok-tail_of.found.0 id at (c.in-Ok.ensures.lists t) (c.settle_all.ensures.reading t)
     (subst (λ (l : List FileId). Surveyed (folder c.args.name.now v1.reading) l found.closed.items (opened_id found.opened)) c.deref.ensures.value (c.in-Ok-read_all.ensures.surveyed t))
     (c.in-Ok-read_all.ensures.opened t) c.in-Ok-tail_of.ensures.ok fault)
 
