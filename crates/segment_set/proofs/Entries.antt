@@ -1,6 +1,6 @@
 -- The entry of an index stands at its position in the tail.
-use Rattle.std.proofs.Common.{◌≡◌, ◌⊎◌, inl, inr, ⊎_elim, ℕ, ◌+◌, ◌-◌, ◌<◌, ◌≤◌, Bool, true, false, nat_lt, if◌then◌else◌, List, [], ◌∷◌, length, map, get_or, Option, Some, Contains, refl, sym, ap, subst, ◌∙◌, arith}
-use Rattle.std.proofs.lemmas.List.{append-nil, length-map}
+use Rattle.std.proofs.Common.{◌≡◌, ◌⊎◌, inl, inr, ⊎_elim, ℕ, ◌+◌, ◌-◌, ◌<◌, ◌≤◌, Bool, true, false, nat_lt, if◌then◌else◌, List, [], ◌∷◌, length, map, get_or, Option, Some, None, Contains, refl, sym, ap, subst, ◌∙◌, arith}
+use Rattle.std.proofs.lemmas.List.{append-nil, get_or_default, length-map}
 use Rattle.std.proofs.lemmas.List.FromFn.{get_or-enumerate_from}
 use Rattle.std.proofs.lemmas.Bool.{ltb-true}
 use Rattle.host_types.specs.declared.entry.Entry.{Entry}
@@ -44,7 +44,7 @@ module _ (v : View) (parts : Parts) (tail : Tail) (some : parts.tail ≡ Some ta
   count : length os ≡ tail.last
   count = parts.counted ∙ ap tail_last some
 
-  numbered : (n : ℕ) (d : ℕ × Entry) → n < length part.entries → (get_or part.entries n d).0 ≡ n + 1
+  pub numbered : (n : ℕ) (d : ℕ × Entry) → n < length part.entries → (get_or part.entries n d).0 ≡ n + 1
   numbered n d lt =
       let p = whole_plain v name tail.id tail_is.0 tail_is.1 in
       let first : tail.id.base - 1 + 1 ≡ 1 = omega (arith, tail.base_is) in
@@ -56,7 +56,7 @@ module _ (v : View) (parts : Parts) (tail : Tail) (some : parts.tail ≡ Some ta
   pub placed : StandAt bytes.0 part os
   placed = subst (λ (o : Option Tail). HasOffsets v name o os) some fits.offsets tail_is.0 tail_is.1 bytes.0 bytes.1
 
-  as_many : length os ≡ length part.entries
+  pub as_many : length os ≡ length part.entries
   as_many = at_length part.id.base bytes.0 64 part.gate part.entries os placed
 
   -- no other index has an entry
@@ -105,3 +105,39 @@ module _ (v : View) (parts : Parts) (tail : Tail) (some : parts.tail ≡ Some ta
     has =
         let it : Contains part.entries (index, entry) = (n, omega (arith, lt, as_many), at.is (index, entry) ∙ ap (λ (i : ℕ). (i, at.entry)) index_is) in
         subst (λ (l : Numbered). Contains l (index, entry)) (sym entries_are) it
+
+-- THE ENTRIES of whatever parts a disk fits
+
+module _ (v : View) (parts : Parts) (fits : Fits v parts) where
+  abbrev all : Numbered
+  all = entries_of (parts_in v.reading parts)
+
+  none_of : parts.tail ≡ None → entries_of (parts_in v.reading parts) ≡ []
+  none_of is = ap entries_of (ap (tail_parts v.reading parts.name) is)
+
+  pub all_counted : length (entries_of (parts_in v.reading parts)) ≡ tail_last parts.tail
+  all_counted = by parts.tail refl
+    where
+      by : (o : Option Tail) → parts.tail ≡ o → length (entries_of (parts_in v.reading parts)) ≡ tail_last parts.tail
+      by None is = ap length (none_of is) ∙ sym (ap tail_last is)
+      by (Some tail) is = ap length (entries_are v parts tail is fits) ∙ sym (as_many v parts tail is fits) ∙ parts.counted
+
+  all_numbered : (n : ℕ) (d : ℕ × Entry) → n < length (entries_of (parts_in v.reading parts)) → (get_or (entries_of (parts_in v.reading parts)) n d).0 ≡ n + 1
+  all_numbered n d lt = by parts.tail refl
+    where
+      by : (o : Option Tail) → parts.tail ≡ o → (get_or (entries_of (parts_in v.reading parts)) n d).0 ≡ n + 1
+      by None is = absurd (omega (arith, lt, ap length (none_of is)))
+      by (Some tail) is =
+          let same = entries_are v parts tail is fits in
+          ap (λ (l : Numbered). (get_or l n d).0) same ∙ numbered v parts tail is fits n d (omega (arith, lt, ap length same))
+
+  -- the one that has an index stands at its position
+  pub at_position : (index : ℕ) (entry : Entry) → Contains (entries_of (parts_in v.reading parts)) (index, entry) → (index - 1 < length (entries_of (parts_in v.reading parts))) × ((d : ℕ × Entry) → get_or (entries_of (parts_in v.reading parts)) (index - 1) d ≡ (index, entry))
+  at_position index entry has =
+      let n = has.0 in
+      let lt : n < length (entries_of (parts_in v.reading parts)) = has.1 in
+      let number : n + 1 ≡ index = sym (all_numbered n (index, entry) lt) ∙ ap (λ (e : ℕ × Entry). e.0) has.2 in
+      let place : n ≡ index - 1 = omega (arith, number) in (
+        omega (arith, lt, place),
+        λ d. ap (λ (k : ℕ). get_or (entries_of (parts_in v.reading parts)) k d) (sym place) ∙ get_or_default (entries_of (parts_in v.reading parts)) n d (index, entry) lt ∙ has.2,
+      )

@@ -8,7 +8,9 @@ use Rattle.segment_files.specs.Contents.{Offset_list, Shows, StandAt}
 use Rattle.segment_files.specs.Parse.{Part, Closed, Whole, Damaged, base_place}
 use Rattle.segment_files.specs.Folder.{Folder, folder}
 use Rattle.segment_set.specs.declared.opening.OpenError.{OpenError}
-use Rattle.segment_set.specs.declared.opening.OpenError.TheVariants.{Disk as Is_disk}
+use Rattle.segment_set.specs.declared.opening.OpenError.TheVariants.{Disk as Is_disk, Damaged as Is_damaged, NoMemory as No_memory}
+use Rattle.segment_files.specs.declared.reading.FileFault.{FileFault}
+use Rattle.segment_files.specs.declared.reading.FileFault.TheVariants as faults
 use Rattle.segment_set.specs.declared.opened.Opened.{Opened}
 use Rattle.segment_set.specs.declared.tail.Tail.{Tail}
 
@@ -61,6 +63,12 @@ IsSeenDamaged files id has_open at = (files id ≡ Damaged at) ⊎ (IsTrue has_o
 -- a fault has the numbers of this file
 abbrev pub IsOf : ℕ → ℕ → FileId → Type 0
 IsOf base generation id = (base ≡ id.base) × (generation ≡ id.generation)
+
+-- a fault of this file, as one of its log
+abbrev pub file_error : FileId → FileFault → OpenError
+file_error id (faults.Damaged at) = Is_damaged id.base id.generation at
+file_error id faults.Failed = Is_disk
+file_error id faults.NoMemory = No_memory
 
 -- the open file that was found
 abbrev pub opened_id : Option Opened → Option FileId

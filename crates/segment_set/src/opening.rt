@@ -10,7 +10,7 @@ ghost use Rattle.segment_files.specs.Folder.{folder, IsChoice, IsFault, IsFirstD
 ghost use Rattle.segment_set.specs.Fits.{Fits, IsEmptyWhereNone, IsHeld, IsInOrder, KeepsNames, parts_in};
 ghost use Rattle.segment_files.specs.Contents.{AreBelow};
 ghost use Rattle.segment_set.specs.Tails.{tail_gate, tail_last};
-ghost use Rattle.segment_set.specs.Opening.{Adds, AreOffsetsOf, HasOpenCause, IsGreatestListed, IsLooked, IsOf, IsSeenDamaged, IsTailFound, OpenedIs, Surveyed, id_from, opened_id};
+ghost use Rattle.segment_set.specs.Opening.{Adds, AreOffsetsOf, HasOpenCause, IsGreatestListed, IsLooked, IsOf, IsSeenDamaged, IsTailFound, OpenedIs, Surveyed, file_error, id_from, opened_id};
 
 use crate::opened::Opened;
 use crate::parts::Parts;
@@ -22,7 +22,7 @@ use offset_index::Offsets;
 use segment_files::{FileFault, Found, scan, settle_all};
 use std::alloc::Global;
 
-/// Why a log can't be opened.
+/// Why a log can't be opened, or an entry of it not read.
 #[derive(Clone, Copy, Debug, PartialEq, Eq)]
 pub enum OpenError {
     /// The disk failed.
@@ -72,6 +72,17 @@ fn damaged(id: FileId, at: u64) -> OpenError
     }
 }
 
+/// A fault of this file, as one of its log.
+pub(crate) fn file_error(id: FileId, fault: FileFault) -> OpenError
+    ensures { result ≡ file_error id fault }
+{
+    match fault {
+        FileFault::Damaged { at } => damaged(id, at),
+        FileFault::Failed => OpenError::Disk,
+        FileFault::NoMemory => OpenError::NoMemory,
+    }
+}
+
 /// A fault of the disk, as one of an opening.
 fn disk_error(fault: DiskFault) -> OpenError
     ensures cause { result ≡ OpenError.Disk → fault ≡ DiskFault.Failed }
@@ -110,9 +121,7 @@ fn look<D: Disk>(
             }
             Ok(Some(Opened { id, part }))
         }
-        Err(FileFault::Damaged { at }) => Err(damaged(id, at)),
-        Err(FileFault::Failed) => Err(OpenError::Disk),
-        Err(FileFault::NoMemory) => Err(OpenError::NoMemory),
+        Err(fault) => Err(file_error(id, fault)),
     }
 }
 

@@ -1,7 +1,10 @@
-use Rattle.std.proofs.Common.{inl, inr, ◌≡◌, ◌≤◌, ℕ, Contains, Err, sym, ap, subst, arith}
+use Rattle.std.proofs.Common.{inl, inr, ◌≡◌, ◌≤◌, ℕ, Contains, Err, sym, ap, subst, ◌∙◌, arith}
 use Rattle.host_types.specs.declared.entry.Entry.{Entry}
 use Rattle.segment_files.specs.declared.reading.FileFault.{FileFault}
-use Rattle.segment_files.specs.declared.reading.FileFault.TheVariants.{Damaged}
+use Rattle.segment_files.specs.declared.reading.FileFault.TheVariants.{Damaged, Failed, NoMemory}
+use Rattle.disk_model.specs.declared.file_id.FileId.{FileId}
+use Rattle.segment_set.specs.declared.opening.OpenError.TheVariants.{Damaged as Is_damaged}
+use Rattle.segment_set.specs.Opening.{file_error}
 use Rattle.segment_files.specs.Contents.{IsNoDamage}
 use Rattle.segment_files.specs.Folder.{entries_of}
 use Rattle.segment_set.specs.Fits.{parts_in}
@@ -37,11 +40,13 @@ returns-in-Ok-clause-entry g c = λ t.
     subst (λ (e : Entry). Contains (entries_of (parts_in v.reading parts)) (n, e)) (sym is) (has v parts tail some fits n first last)
 
 -- a fault that says nothing of the file isn't that it is damaged
-not_both : (fault : FileFault) (at : ℕ) → IsNoDamage fault → fault ≡ Damaged at → ⊥
-not_both fault at none is = subst IsNoDamage is none
+not_both : (id : FileId) (fault : FileFault) (base generation at : ℕ) → IsNoDamage fault → file_error id fault ≡ Is_damaged base generation at → ⊥
+not_both id Failed base generation at none is = absurd (cc is)
+not_both id NoMemory base generation at none is = absurd (cc is)
+not_both id (Damaged place) base generation at none is = none
 
 pub returns-in-Err-clause-undamaged : goal.returns-in-Err-clause-undamaged
-returns-in-Err-clause-undamaged g c = λ at is t.
+returns-in-Err-clause-undamaged g c = λ base generation at is t.
     let v = g.D.Disk.view c.args.disk.now in
     let parts = c.args.self.now in
     let tail = c.in-Some.tail in
@@ -54,4 +59,5 @@ returns-in-Err-clause-undamaged g c = λ at is t.
     let none = c.in-Err.ensures.entry t b.0 b.1 (size v parts tail some fits n first last) (entry v parts tail some fits n first last)
     (stands v parts tail some fits n first last c.span-from.result.0 c.span-from.ensures.from)
     (within v parts tail some fits n first last c.span-from.result.0 c.span-from.result.1 c.span-from.ensures.from c.span-from.ensures.to) in
-    not_both c.in-Err.fault at none (cc is)
+    let e : c.file_error.result ≡ Is_damaged base generation at = cc is in
+    not_both tail.id c.in-Err.fault base generation at none (sym c.file_error.ensures ∙ e)
