@@ -1,5 +1,5 @@
 -- How a call on the host makes an answer of the run that it stands at.
-use Rattle.std.proofs.Common.{◌≡◌, ◌⊎◌, inl, inr, ℕ, suc, ◌+◌, ◌≤◌, ◌==◌, nat_lt, not, cond, map, true, false, List, [], ◌∷◌, ◌++◌, length, Option, Some, None, is_none, Result, Ok, Err, IsTrue, refl, ap, sym, ◌∙◌, subst, arith, length-append, ◌&&◌, nat_le}
+use Rattle.std.proofs.Common.{◌≡◌, ◌⊎◌, inl, inr, ℕ, suc, ◌+◌, ◌≤◌, ◌==◌, nat_lt, not, cond, map, true, false, List, [], ◌∷◌, ◌++◌, length, Option, Some, None, is_none, Result, Ok, Err, IsTrue, refl, ap, sym, ◌∙◌, subst, arith, ◌&&◌, nat_le}
 use Rattle.std.specs.Prelude.{IfOk, IfErr}
 use Rattle.std.specs.Cmp.{nat_eq_equiv}
 use Rattle.std.specs.List.{AllByRecursion, filter}
@@ -19,7 +19,7 @@ use Rattle.segment_files.specs.Folder.{folder, Stands}
 use Rattle.segment_set.specs.Fits.{IsEmptyWhereNone}
 use Rattle.log_model.specs.plain.Admission.{Item, Offered, Expired, Admission, Admitted, Repeats, Refused, admits, first_refusal, refused_if, Expiry, Expires, Nobody, Not_now, expires}
 use Rattle.log_model.specs.plain.Fitting.{ItemFits}
-use Rattle.log_model.specs.hosted.Hosted.{Hosted, choice_body, hosted_admits, hosted_choice, hosted_entry, hosted_expires, hosted_folded, hosted_told}
+use Rattle.log_model.specs.hosted.Hosted.{Hosted, hosted_admits, hosted_entry, hosted_expires, hosted_folded, hosted_told}
 use Rattle.log_model.specs.cleaning.Layout.{Layout, alone, needs_file, with_entry}
 use Rattle.log_model.specs.hosted.Machines.{LogsAreSound}
 use Rattle.log_model.specs.hosted.PlainMachine.{HostsArePlain, IsAsPlain}
@@ -28,17 +28,12 @@ use Rattle.log_model.specs.plain.Plain.{Session}
 use Rattle.log_model.specs.replay.Replay.{pushed, replay_batches, replay_entry}
 use Rattle.log_model.specs.plain.Step.{events_of, folded}
 use Rattle.log_model.specs.plain.Stored.{entry_of, is_admission, is_admitted, is_expiry_of}
-use Rattle.host_types.specs.Decision.{Choice, Decides, Declines, MachineDecision}
-use Rattle.host_types.specs.declared.entry.Ask.{Ask}
-use Rattle.host_types.specs.declared.entry.Ask.TheVariants.{Register, Alive, Unregister, Tick, Command}
-use Rattle.log_model.specs.serving.Positions.{Position, acked_positions, confirmed_after, confirmed_asked, event_at}
-use Rattle.session_table.specs.Table.{Beside, ConfirmsAcked, confirmed_positions}
-use Rattle.host_core.specs.Entering.{beside_after}
-use Rattle.host_core.specs.Seen.{hosted}
-use Rattle.host_core.proofs.Confirming.{confirmed_entered, entered}
+use Rattle.log_model.specs.serving.Positions.{Position, acked_positions, confirmed_after, event_at}
+use Rattle.session_table.specs.Table.{ConfirmsAcked, confirmed_positions}
+use Rattle.host_core.specs.CoreState.{hosted}
 use Rattle.host_recovery.specs.Lying.{LiesAlone}
-use Rattle.host_recovery.specs.Seen.{Seen}
-use Rattle.host_recovery.specs.Standing.{IsLog as HostIsLog, StandsAt, StandsFor as HostStandsFor, StandsOrGains, StandsOrTakes, StandsOrExpires, layout_in}
+use Rattle.host_recovery.specs.HostState.{HostState}
+use Rattle.host_recovery.specs.Standing.{StandsAt, StandsOrGains, StandsOrTakes, StandsOrExpires, layout_in}
 use Rattle.host_recovery.specs.Answers.{AfterError, IsAnswer, IsExpiry, OnAnswer, OnExpiry, admits_file as host_admits_file, admits_stored, answer_of, expiry_refusal, expiry_stored, if_filed}
 use Rattle.host_recovery.specs.declared.answers.Answer.{Answer as HostAnswer}
 use Rattle.host_recovery.specs.declared.answers.Answer.TheVariants as answers
@@ -53,67 +48,48 @@ use Rattle.script_text.specs.Printing.{printed_text}
 use Rattle.copycat_tool.specs.declared.calls.Expiring.{Expiring}
 use Rattle.copycat_tool.specs.declared.ending.Ending.{Ending}
 use Rattle.copycat_tool.specs.declared.ending.Ending.TheVariants.{DiskFault, NoMemory}
-use Rattle.copycat_tool.specs.Calls.{HasFewer, IsExpiring, IsTold, change_of, expiry_told, offer_told, printed_of}
-use Rattle.copycat_tool.specs.Logs.{IsLog, StandsFor}
+use Rattle.copycat_tool.specs.HostCalls.{HasFewer, IsExpiring, IsTold, change_of, expiry_told, offer_told, printed_of}
+use Rattle.host_recovery.specs.Logs.{IsLog, StandsFor, hosted_form, plain_form}
 use Rattle.copycat_tool.specs.Report.{Run, Act, Change, Nothing, Stores, admission, admits_file, answer_by, changed, expired_answer, expiry, expiry_in, reopening, Reopens, stored_as}
 use Rattle.copycat_tool.specs.Runs.{BeginsAcked, Files, StandsEither}
-use Rattle.copycat_tool.specs.Taking.{HasClients, client_of}
+use Rattle.copycat_tool.specs.ClientTakes.{HasClients, client_of}
 use Rattle.copycat_tool.specs.declared.clients.Clients.{Clients}
-use Rattle.copycat_tool.specs.Standing.{IsAt, IsCut, IsMade}
+use Rattle.copycat_tool.specs.RunStanding.{IsAt, IsCut, IsMade}
 use Rattle.copycat_tool.proofs.LogLemmas.{due_session, expires_when, fewer_due, id_past, logged_more}
 use Rattle.copycat_tool.proofs.Offering.{offers_nothing, reopened_offered, stored_offered}
 use Rattle.copycat_tool.proofs.TurnLemmas.{made_nothing}
 
 -- what a host that stands at a log says of its files and of its state
-pub record Keeps {D : Type 0} (view : D → View) (h : Seen D Parts) : Type 0 where
-  pub images : (items : List Item) → StandsAt catalog_decision view cells_of h items → (image : Image) → MayLeave (view h.disk) image → HostStandsFor catalog_decision h.parts.name image items
+pub record Keeps {D : Type 0} (view : D → View) (h : HostState D Parts) : Type 0 where
+  pub images : (items : List Item) → StandsAt catalog_decision view cells_of h items → (image : Image) → MayLeave (view h.disk) image → StandsFor (hosted_form catalog_decision) h.parts.name image items
   pub empty : (items : List Item) → StandsAt catalog_decision view cells_of h items → IsEmptyWhereNone (view h.disk) h.parts.name
   pub last : (items : List Item) → StandsAt catalog_decision view cells_of h items → (hosted cells_of h.core).last ≡ length items
   pub layout : (items : List Item) → StandsAt catalog_decision view cells_of h items → LiesAlone h.parts.name (view h.disk).reading (alone (layout_in (view h.disk) h.parts))
   pub file : (items : List Item) → StandsAt catalog_decision view cells_of h items → needs_file (layout_in (view h.disk) h.parts) ≡ is_none h.parts.tail
 
--- what the sessions have confirmed, once an item is stored
-confirmed_stored : (d : MachineDecision) (s : Hosted) (i : ℕ) (item : Item) (bs : List Beside) → confirmed_positions (beside_after i (hosted_entry d s item).body bs) ≡ confirmed_after i item (confirmed_positions bs)
-confirmed_stored d s i item bs = confirmed_entered i (hosted_entry d s item).body bs ∙ by item
-  where
-    commanded : (session seq : ℕ) (choice : Choice) → entered i (choice_body session seq choice) (confirmed_positions bs) ≡ confirmed_positions bs
-    commanded session seq (Decides effect reply) = refl
-    commanded session seq (Declines refusal) = refl
-
-    of : (time : ℕ) (ask : Ask) → entered i (hosted_entry d s (Offered (record { time = time; ask = ask }))).body (confirmed_positions bs) ≡ confirmed_asked i ask (confirmed_positions bs)
-    of time (Register timeout) = refl
-    of time (Alive session seq event) = refl
-    of time (Unregister session) = refl
-    of time Tick = refl
-    of time (Command session seq name op) = commanded session seq (hosted_choice d s session name op)
-
-    by : (item : Item) → entered i (hosted_entry d s item).body (confirmed_positions bs) ≡ confirmed_after i item (confirmed_positions bs)
-    by (Offered o) = of o.time o.ask
-    by (Expired time session) = refl
-
 module _ (law : HostsArePlain catalog_decision) where
-  pub as_model : (log : List Item) → IsLog log → IsAsPlain catalog_decision log
+  pub as_model : (log : List Item) → IsLog plain_form log → IsAsPlain catalog_decision log
   as_model log is = (law log).1 is.admitted
 
   -- ---- logs of the host, and plain ones
 
-  pub plain_files : (name name' : List ℕ) (log : List Item) → IsLog log → name ≡ name' → (image : Image) → HostStandsFor catalog_decision name image log → StandsFor name' image log
+  pub plain_files : (name name' : List ℕ) (log : List Item) → IsLog plain_form log → name ≡ name' → (image : Image) → StandsFor (hosted_form catalog_decision) name image log → StandsFor plain_form name' image log
   plain_files name name' log is same image s =
-      subst (λ (n : List ℕ). StandsFor n image log) same (subst (λ (es : List Entry). Stands (folder name image) es) (as_model log is).same_entries s)
+      subst (λ (n : List ℕ). StandsFor plain_form n image log) same (subst (λ (es : List Entry). Stands (folder name image) es) (as_model log is).same_entries s)
 
-  pub hosted_files : (name : List ℕ) (log : List Item) → IsLog log → (image : Image) → StandsFor name image log → HostStandsFor catalog_decision name image log
+  pub hosted_files : (name : List ℕ) (log : List Item) → IsLog plain_form log → (image : Image) → StandsFor plain_form name image log → StandsFor (hosted_form catalog_decision) name image log
   hosted_files name log is image s = subst (λ (es : List Entry). Stands (folder name image) es) (sym (as_model log is).same_entries) s
 
-  pub as_hosted : (log : List Item) → IsLog log → HostIsLog catalog_decision log
+  pub as_hosted : (log : List Item) → IsLog plain_form log → IsLog (hosted_form catalog_decision) log
   as_hosted log is = record { admitted = subst IsTrue (sym (law log).0) is.admitted; fits = is.fits }
 
-  pub from_hosted : (log : List Item) → HostIsLog catalog_decision log → IsLog log
+  pub from_hosted : (log : List Item) → IsLog (hosted_form catalog_decision) log → IsLog plain_form log
   from_hosted log is = record { admitted = subst IsTrue (law log).0 is.admitted; fits = is.fits }
 
   -- ---- where the host stands
 
-  module _ {D : Type 0} (view : D → View) (files : Files) (h : Seen D Parts) (keeps : Keeps view h) (sound : IsSound (view h.disk)) where
-    pub is_at : (run : Run) → h.parts.name ≡ files.name → h.size ≡ files.size → StandsAt catalog_decision view cells_of h run.log → IsLog run.log → layout_in (view h.disk) h.parts ≡ run.layout → confirmed_positions h.core.sessions.beside ≡ run.confirmed → IsAt view files h run
+  module _ {D : Type 0} (view : D → View) (files : Files) (h : HostState D Parts) (keeps : Keeps view h) (sound : IsSound (view h.disk)) where
+    pub is_at : (run : Run) → h.parts.name ≡ files.name → h.size ≡ files.size → StandsAt catalog_decision view cells_of h run.log → IsLog plain_form run.log → layout_in (view h.disk) h.parts ≡ run.layout → confirmed_positions h.core.sessions.beside ≡ run.confirmed → IsAt view files h run
     is_at run name size stands logged layout confirmed = record {
       name_is = name;
       size_is = size;
@@ -133,17 +109,17 @@ module _ (law : HostsArePlain catalog_decision) where
     }
 
   -- its sessions are those of the log
-  pub sessions_are : {D : Type 0} (view : D → View) (files : Files) (h : Seen D Parts) (run : Run) → IsAt view files h run → h.core.sessions.sessions ≡ (folded run.log).sessions
+  pub sessions_are : {D : Type 0} (view : D → View) (files : Files) (h : HostState D Parts) (run : Run) → IsAt view files h run → h.core.sessions.sessions ≡ (folded run.log).sessions
   sessions_are view files h run at = ap (λ (s : Hosted). s.sessions) (at.stands.state ∙ (as_model run.log at.rest.logged).same_fold)
 
   -- the clients begin with what its sessions acknowledged
-  pub clients_begin : {D : Type 0} (view : D → View) (files : Files) (h : Seen D Parts) (run : Run) (clients : Clients) → IsAt view files h run → BeginsAcked run → ((id : ℕ) → client_of clients id ≡ event_at id id (acked_positions h.core.sessions.sessions)) → HasClients run clients
+  pub clients_begin : {D : Type 0} (view : D → View) (files : Files) (h : HostState D Parts) (run : Run) (clients : Clients) → IsAt view files h run → BeginsAcked run → ((id : ℕ) → client_of clients id ≡ event_at id id (acked_positions h.core.sessions.sessions)) → HasClients run clients
   clients_begin view files h run clients at acked are id = are id ∙ ap (λ (xs : List Session). event_at id id (acked_positions xs)) (sessions_are view files h run at) ∙ ap (λ (ps : List Position). event_at id id ps) (sym acked)
 
   -- ---- an item more
 
   -- what a crash leaves while an item is stored
-  gains : (name name' : List ℕ) (log : List Item) (item : Item) (v w : View) → IsLog log → IsLog (log ++ item ∷ []) → name ≡ name'
+  gains : (name name' : List ℕ) (log : List Item) (item : Item) (v w : View) → IsLog plain_form log → IsLog plain_form (log ++ item ∷ []) → name ≡ name'
       → LeavesOnly v w (StandsOrGains catalog_decision name log item) → LeavesOnly v w (StandsEither name' log (log ++ item ∷ []))
   gains name name' log item v w is more same only = weaker v w _ _ only (λ image has. elim has [
     | inl s ↦ inl (plain_files name name' log is same image s)
@@ -151,12 +127,12 @@ module _ (law : HostsArePlain catalog_decision) where
   ])
 
   -- and while none is
-  keeps_log : (name name' : List ℕ) (log : List Item) (v w : View) → IsLog log → name ≡ name' → LeavesOnly v w (λ image. HostStandsFor catalog_decision name image log) → LeavesOnly v w (StandsEither name' log log)
+  keeps_log : (name name' : List ℕ) (log : List Item) (v w : View) → IsLog plain_form log → name ≡ name' → LeavesOnly v w (λ image. StandsFor (hosted_form catalog_decision) name image log) → LeavesOnly v w (StandsEither name' log log)
   keeps_log name name' log v w is same only = weaker v w _ _ only (λ image s. inl (plain_files name name' log is same image s))
 
-  module _ {D : Type 0} (view : D → View) (files : Files) (old new : Seen D Parts) (run : Run) (at : IsAt view files old run) (keeps : Keeps view new) (sound : IsSound (view new.disk))
+  module _ {D : Type 0} (view : D → View) (files : Files) (old new : HostState D Parts) (run : Run) (at : IsAt view files old run) (keeps : Keeps view new) (sound : IsSound (view new.disk))
       (name_is : new.parts.name ≡ old.parts.name) (size_is : new.size ≡ old.size) where
-    logged : IsLog run.log
+    logged : IsLog plain_form run.log
     logged = at.rest.logged
 
     model : IsAsPlain catalog_decision run.log
@@ -169,20 +145,20 @@ module _ (law : HostsArePlain catalog_decision) where
       -- it was stored
       pub made_stored : (this : Act) → this.does ≡ Stores (item ∷ []) → StandsAt catalog_decision view cells_of new (run.log ++ item ∷ [])
           → layout_in (view new.disk) new.parts ≡ with_entry old.size (layout_in (view old.disk) old.parts)
-          → new.core.sessions.beside ≡ beside_after ((hosted cells_of old.core).last + 1) (hosted_entry catalog_decision (hosted cells_of old.core) item).body old.core.sessions.beside
+          → confirmed_positions new.core.sessions.beside ≡ confirmed_after ((hosted cells_of old.core).last + 1) item (confirmed_positions old.core.sessions.beside)
           → LeavesOnly (view old.disk) (view new.disk) (StandsOrGains catalog_decision old.parts.name run.log item) → IsMade view files old new run this
-      made_stored this does stands layout beside moments = made (subst P (sym does) (there, only))
+      made_stored this does stands layout positions moments = made (subst P (sym does) (there, only))
         where
           next : Run
           next = changed files.size run (Stores (item ∷ []))
 
-          more : IsLog (run.log ++ item ∷ [])
+          more : IsLog plain_form (run.log ++ item ∷ [])
           more = from_hosted (run.log ++ item ∷ []) stands.log
 
           there : IsAt view files new next
           there = is_at view files new keeps sound next (name_is ∙ at.name_is) (size_is ∙ at.size_is) stands more
               (layout ∙ (λ i. with_entry (at.size_is i) (at.layout_is i)))
-              (ap confirmed_positions beside ∙ confirmed_stored catalog_decision (hosted cells_of old.core) ((hosted cells_of old.core).last + 1) item old.core.sessions.beside ∙ (λ i. confirmed_after (at.last_is i + 1) item (at.confirmed_is i)))
+              (positions ∙ (λ i. confirmed_after (at.last_is i + 1) item (at.confirmed_is i)))
 
           only : LeavesOnly (view old.disk) (view new.disk) (StandsEither files.name run.log next.log)
           only = gains old.parts.name files.name run.log item (view old.disk) (view new.disk) logged more at.name_is moments
@@ -208,11 +184,11 @@ module _ (law : HostsArePlain catalog_decision) where
 
     -- no item was on its way
     pub cut_still : (ending : Ending) → (ending ≡ DiskFault) ⊎ (ending ≡ NoMemory) → IsEmptyWhereNone (view new.disk) old.parts.name
-        → LeavesOnly (view old.disk) (view new.disk) (λ image. HostStandsFor catalog_decision old.parts.name image run.log) → (change : Change) → (changed files.size run change).log ≡ run.log → IsCut files (view old.disk) (view new.disk) run change ending
+        → LeavesOnly (view old.disk) (view new.disk) (λ image. StandsFor (hosted_form catalog_decision) old.parts.name image run.log) → (change : Change) → (changed files.size run change).log ≡ run.log → IsCut files (view old.disk) (view new.disk) run change ending
     cut_still ending ending_is empty moments change same = record {
       ending_is = ending_is;
       sound = sound;
-      logged = subst IsLog (sym same) logged;
+      logged = subst (IsLog plain_form) (sym same) logged;
       empty = subst (λ (n : List ℕ). IsEmptyWhereNone (view new.disk) n) at.name_is empty;
       any_moment = subst (λ (l : List Item). LeavesOnly (view old.disk) (view new.disk) (StandsEither files.name run.log l)) (sym same) (keeps_log old.parts.name files.name run.log (view old.disk) (view new.disk) logged at.name_is moments);
     }
@@ -247,34 +223,34 @@ module _ (law : HostsArePlain catalog_decision) where
 
       stored_told : (answer : HostAnswer) → host_admission ≡ Admitted → answer ≡ answer_of ((hosted cells_of old.core).last + 1) host_body → StandsAt catalog_decision view cells_of new (run.log ++ Offered one ∷ [])
           → layout_in (view new.disk) new.parts ≡ with_entry old.size (layout_in (view old.disk) old.parts)
-          → new.core.sessions.beside ≡ beside_after ((hosted cells_of old.core).last + 1) host_body old.core.sessions.beside
+          → confirmed_positions new.core.sessions.beside ≡ confirmed_after ((hosted cells_of old.core).last + 1) (Offered one) (confirmed_positions old.core.sessions.beside)
           → LeavesOnly (view old.disk) (view new.disk) (StandsOrTakes catalog_decision old.parts.name run.log (Offered one) host_admission) → Told (admission run one) (printed_of answer)
-      stored_told answer here is stands layout beside moments =
+      stored_told answer here is stands layout positions moments =
           let text : printed_of answer ≡ stored_as (length run.log + 1) (entry_of (folded run.log) (Offered one)).body = ap printed_of is ∙ printed_as _ host_body ∙ (λ i. stored_as (at.last_is i + 1) (body_is i)) in
           let gained = subst (λ (a : Admission). LeavesOnly (view old.disk) (view new.disk) (StandsOrTakes catalog_decision old.parts.name run.log (Offered one) a)) here moments in
           subst (λ (a : Admission). Told a (printed_of answer)) (sym here ∙ admission_is)
-          (record { line_is = ap (λ (p : Printed). printed_text p ∷ []) (sym text); made = made_stored (Offered one) (answer_by Admitted run one) refl stands layout beside gained })
+          (record { line_is = ap (λ (p : Printed). printed_text p ∷ []) (sym text); made = made_stored (Offered one) (answer_by Admitted run one) refl stands layout positions gained })
 
       same_told : (adm : Admission) (printed : Printed) → host_admission ≡ adm → new ≡ old → (answer_by adm run one).lines ≡ printed_text printed ∷ [] → (answer_by adm run one).does ≡ Nothing → Told (admission run one) printed
       same_told adm printed here same line does =
           subst (λ (a : Admission). Told a printed) (sym here ∙ admission_is)
-          (record { line_is = line; made = subst (λ (h : Seen D Parts). IsMade view files old h run (answer_by adm run one)) (sym same) (made_nothing view files old old run (answer_by adm run one) at does) })
+          (record { line_is = line; made = subst (λ (h : HostState D Parts). IsMade view files old h run (answer_by adm run one)) (sym same) (made_nothing view files old old run (answer_by adm run one) at does) })
 
       pub offer_answered : (result : Result HostAnswer HostError) → IsAnswer old.stopped host_admission ((hosted cells_of old.core).last + 1) host_body result
           → IfOk result (λ _. OnAnswer result (new ≡ old) (new.stopped ≡ false)) → IfErr result (AfterError cells_of old new)
           → OnAnswer result (StandsAt catalog_decision view cells_of new run.log) (StandsAt catalog_decision view cells_of new (run.log ++ Offered one ∷ []))
           → OnAnswer result (Unit {0}) (layout_in (view new.disk) new.parts ≡ with_entry old.size (layout_in (view old.disk) old.parts))
-          → OnAnswer result (Unit {0}) (new.core.sessions.beside ≡ beside_after ((hosted cells_of old.core).last + 1) host_body old.core.sessions.beside)
+          → OnAnswer result (Unit {0}) (confirmed_positions new.core.sessions.beside ≡ confirmed_after ((hosted cells_of old.core).last + 1) (Offered one) (confirmed_positions old.core.sessions.beside))
           → LeavesOnly (view old.disk) (view new.disk) (StandsOrTakes catalog_decision old.parts.name run.log (Offered one) host_admission)
           → IfOk (offer_told result) (Told (admission run one))
-      offer_answered (Ok (answers.Session index)) is repeated after stands layout beside moments = stored_told (answers.Session index) is.1 is.2 stands layout beside moments
-      offer_answered (Ok (answers.Done index)) is repeated after stands layout beside moments = stored_told (answers.Done index) is.1 is.2 stands layout beside moments
-      offer_answered (Ok (answers.Replied index reply)) is repeated after stands layout beside moments = stored_told (answers.Replied index reply) is.1 is.2 stands layout beside moments
-      offer_answered (Ok (answers.Repeat reply)) is repeated after stands layout beside moments = same_told (Repeats reply) (prints.Repeat reply) is.1 repeated refl refl
-      offer_answered (Err errors.Stopped) is repeated after stands layout beside moments = tt
-      offer_answered (Err (errors.Refused why)) is repeated after stands layout beside moments = same_told (Refused why) (prints.Refused why) is.1 after refl refl
-      offer_answered (Err errors.NoMemory) is repeated after stands layout beside moments = tt
-      offer_answered (Err errors.Disk) is repeated after stands layout beside moments = tt
+      offer_answered (Ok (answers.Session index)) is repeated after stands layout positions moments = stored_told (answers.Session index) is.1 is.2 stands layout positions moments
+      offer_answered (Ok (answers.Done index)) is repeated after stands layout positions moments = stored_told (answers.Done index) is.1 is.2 stands layout positions moments
+      offer_answered (Ok (answers.Replied index reply)) is repeated after stands layout positions moments = stored_told (answers.Replied index reply) is.1 is.2 stands layout positions moments
+      offer_answered (Ok (answers.Repeat reply)) is repeated after stands layout positions moments = same_told (Repeats reply) (prints.Repeat reply) is.1 repeated refl refl
+      offer_answered (Err errors.Stopped) is repeated after stands layout positions moments = tt
+      offer_answered (Err (errors.Refused why)) is repeated after stands layout positions moments = same_told (Refused why) (prints.Refused why) is.1 after refl refl
+      offer_answered (Err errors.NoMemory) is repeated after stands layout positions moments = tt
+      offer_answered (Err errors.Disk) is repeated after stands layout positions moments = tt
 
       -- what is admitted by the files too is admitted by the state
       admitted_first : (a b : Admission) → first_refusal (a ∷ b ∷ []) ≡ Admitted → is_admission a ≡ true
@@ -339,23 +315,23 @@ module _ (law : HostsArePlain catalog_decision) where
           → IfOk result (λ _. OnExpiry result (new ≡ old) (λ _. new.stopped ≡ false)) → IfErr result (AfterError cells_of old new)
           → OnExpiry result (StandsAt catalog_decision view cells_of new run.log) (λ session. StandsAt catalog_decision view cells_of new (run.log ++ Expired time session ∷ []))
           → OnExpiry result (Unit {0}) (λ _. layout_in (view new.disk) new.parts ≡ with_entry old.size (layout_in (view old.disk) old.parts))
-          → OnExpiry result (Unit {0}) (λ session. new.core.sessions.beside ≡ beside_after ((hosted cells_of old.core).last + 1) (bodies.Close session true) old.core.sessions.beside)
+          → OnExpiry result (Unit {0}) (λ session. confirmed_positions new.core.sessions.beside ≡ confirmed_after ((hosted cells_of old.core).last + 1) (Expired time session) (confirmed_positions old.core.sessions.beside))
           → LeavesOnly (view old.disk) (view new.disk) (StandsOrExpires catalog_decision old.parts.name run.log time (expiry_stored host_expiry old.parts))
           → IfOk (expiry_told result) Went
-      expiry_answered (Ok None) is same after stands layout beside moments = (sym expiry_is ∙ of_nobody host_expiry is.1, same)
-      expiry_answered (Ok (Some one)) is same after stands layout beside moments =
+      expiry_answered (Ok None) is same after stands layout positions moments = (sym expiry_is ∙ of_nobody host_expiry is.1, same)
+      expiry_answered (Ok (Some one)) is same after stands layout positions moments =
           let filed = of_filed host_expiry one.1 is.1 is.2 in
           let gained = subst (λ (e : Expiry). LeavesOnly (view old.disk) (view new.disk) (StandsOrExpires catalog_decision old.parts.name run.log time e)) filed moments in (
             sym expiry_is ∙ filed,
             record {
               line_is = ap (λ (n : ℕ). printed_text (prints.Expired n one.1) ∷ []) (sym (is.3 ∙ ap (λ (n : ℕ). n + 1) at.last_is));
-              made = made_stored (Expired time one.1) (expired_answer run time one.1) refl stands layout beside gained;
+              made = made_stored (Expired time one.1) (expired_answer run time one.1) refl stands layout positions gained;
             },
           )
-      expiry_answered (Err errors.Stopped) is same after stands layout beside moments = tt
-      expiry_answered (Err (errors.Refused why)) is same after stands layout beside moments = (sym expiry_is ∙ of_refused host_expiry why is.1, after)
-      expiry_answered (Err errors.NoMemory) is same after stands layout beside moments = tt
-      expiry_answered (Err errors.Disk) is same after stands layout beside moments = tt
+      expiry_answered (Err errors.Stopped) is same after stands layout positions moments = tt
+      expiry_answered (Err (errors.Refused why)) is same after stands layout positions moments = (sym expiry_is ∙ of_refused host_expiry why is.1, after)
+      expiry_answered (Err errors.NoMemory) is same after stands layout positions moments = tt
+      expiry_answered (Err errors.Disk) is same after stands layout positions moments = tt
 
       cut_of : (ending : Ending) → (ending ≡ DiskFault) ⊎ (ending ≡ NoMemory) → IsUnsigned time → LogsAreSound → IsEmptyWhereNone (view new.disk) old.parts.name → (e : Expiry) → expiry run time ≡ e
           → LeavesOnly (view old.disk) (view new.disk) (StandsOrExpires catalog_decision old.parts.name run.log time e) → IsCut files (view old.disk) (view new.disk) run (change_of e time) ending
@@ -391,7 +367,7 @@ module _ (law : HostsArePlain catalog_decision) where
     -- ---- the log is opened again
 
     pub reopened : StandsAt catalog_decision view cells_of new run.log → layout_in (view new.disk) new.parts ≡ alone (layout_in (view old.disk) old.parts) → ConfirmsAcked new.core.sessions
-        → LeavesOnly (view old.disk) (view new.disk) (λ image. HostStandsFor catalog_decision old.parts.name image run.log) → IsTold view files old new run (reopening run) (prints.Opened (hosted cells_of new.core).last)
+        → LeavesOnly (view old.disk) (view new.disk) (λ image. StandsFor (hosted_form catalog_decision) old.parts.name image run.log) → IsTold view files old new run (reopening run) (prints.Opened (hosted cells_of new.core).last)
     reopened stands layout confirmed moments = record {
       line_is = ap (λ (n : ℕ). printed_text (prints.Opened n) ∷ []) (sym (keeps.last run.log stands));
       made = record {
@@ -403,11 +379,11 @@ module _ (law : HostsArePlain catalog_decision) where
     }
 
     pub reopen_cut : (ending : Ending) → (ending ≡ DiskFault) ⊎ (ending ≡ NoMemory) → IsEmptyWhereNone (view new.disk) old.parts.name
-        → LeavesOnly (view old.disk) (view new.disk) (λ image. HostStandsFor catalog_decision old.parts.name image run.log) → IsCut files (view old.disk) (view new.disk) run Reopens ending
+        → LeavesOnly (view old.disk) (view new.disk) (λ image. StandsFor (hosted_form catalog_decision) old.parts.name image run.log) → IsCut files (view old.disk) (view new.disk) run Reopens ending
     reopen_cut ending ending_is empty moments = cut_still ending ending_is empty moments Reopens refl
 
 -- fewer sessions are open where one expired, whatever the disk tells
-pub told_fewer : {D : Type 0} (old new : Seen D Parts) (time : ℕ) (result : Result (Option (ℕ × ℕ)) HostError) → IsExpiry old.stopped (hosted_expires (hosted cells_of old.core) time) old.parts ((hosted cells_of old.core).last + 1) result
+pub told_fewer : {D : Type 0} (old new : HostState D Parts) (time : ℕ) (result : Result (Option (ℕ × ℕ)) HostError) → IsExpiry old.stopped (hosted_expires (hosted cells_of old.core) time) old.parts ((hosted cells_of old.core).last + 1) result
     → OnExpiry result (Unit {0}) (λ session. hosted cells_of new.core ≡ replay_entry (hosted_told catalog_decision) 0 (hosted cells_of old.core) ((hosted cells_of old.core).last + 1, record { time = time; body = bodies.Close session true }))
     → IfOk (expiry_told result) (λ who. HasFewer who (length old.core.sessions.sessions) (length new.core.sessions.sessions))
 told_fewer old new time (Ok None) is state = tt

@@ -6,15 +6,15 @@ use Rattle.host_types.specs.declared.entry.Offer.{Offer}
 use Rattle.host_types.specs.declared.entry.Refusal.{Refusal}
 use Rattle.log_model.specs.plain.Admission.{Expired, Expiry, Expires, Nobody, Not_now, expires}
 use Rattle.log_model.specs.plain.Step.{folded}
-use Rattle.host_recovery.specs.Seen.{Seen}
+use Rattle.host_recovery.specs.HostState.{HostState}
 use Rattle.resource_catalog.specs.Parts.{Parts}
 use Rattle.script_text.specs.declared.printed.Printed.TheVariants as prints
 use Rattle.script_text.specs.Printing.{printed_line}
 use Rattle.copycat_tool.specs.declared.ending.Ending.{Ending}
-use Rattle.copycat_tool.specs.Calls.{IsTold, change_of}
+use Rattle.copycat_tool.specs.HostCalls.{IsTold, change_of}
 use Rattle.copycat_tool.specs.Report.{Run, Act, Report, Nothing, Stores, after, all_expired, answer_after, changed, expired, expired_answer, expiry, in_front, offer_answer, offered, with_expired}
 use Rattle.copycat_tool.specs.Runs.{Files}
-use Rattle.copycat_tool.specs.Standing.{IsAt, IsCut}
+use Rattle.copycat_tool.specs.RunStanding.{IsAt, IsCut}
 use Rattle.copycat_tool.specs.Turning.{Answers, HasAnswered, HasEnded, HasExpired, HasRun, stopped_by}
 use Rattle.copycat_tool.proofs.LogLemmas.{expires_when, fewer_left}
 use Rattle.copycat_tool.proofs.Prefixes.{after-append}
@@ -22,14 +22,14 @@ use Rattle.copycat_tool.proofs.TurnLemmas.{call_cut, cut_before, nothing_answere
 use Rattle.copycat_tool.proofs.Writing.{wrote_none}
 
 -- so many expired, and so many more may
-pub record SoFar {D : Type 0} (view : D → View) (files : Files) (time : ℕ) (old now : Seen D Parts) (run : Run) (written written' : Option (List ℕ)) : Type 0 where
+pub record SoFar {D : Type 0} (view : D → View) (files : Files) (time : ℕ) (old now : HostState D Parts) (run : Run) (written written' : Option (List ℕ)) : Type 0 where
   pub done : List Act
   pub left : ℕ
   pub all : HasAnswered view files done old now run written written'
   pub all_is : all_expired files.size run time ≡ done ++ expired files.size left (after files.size run done) time
   pub enough : length (folded (after files.size run done).log).sessions ≤ left
 
-pub first : {D : Type 0} (view : D → View) (files : Files) (time : ℕ) (h : Seen D Parts) (run : Run) (written : Option (List ℕ)) → IsAt view files h run → SoFar view files time h h run written written
+pub first : {D : Type 0} (view : D → View) (files : Files) (time : ℕ) (h : HostState D Parts) (run : Run) (written : Option (List ℕ)) → IsAt view files h run → SoFar view files time h h run written written
 first view files time h run written at = record {
   done = [];
   left = length (folded run.log).sessions;
@@ -61,7 +61,7 @@ within : (files : Files) (a b : List Act) (v w : View) (run : Run) (written writ
 within files a b v w run written written' ending e rest =
     subst (λ (l : List Act). HasRun files (record { acts = l; ending = rest.ending }) v w run written written' ending) (sym (append_assoc a b rest.acts)) (e (in_front b rest))
 
-module _ {D : Type 0} (view : D → View) (files : Files) (time : ℕ) (old now : Seen D Parts) (run : Run) (written written' : Option (List ℕ)) (so_far : SoFar view files time old now run written written') where
+module _ {D : Type 0} (view : D → View) (files : Files) (time : ℕ) (old now : HostState D Parts) (run : Run) (written written' : Option (List ℕ)) (so_far : SoFar view files time old now run written written') where
   abbrev here : Run
   here = after files.size run so_far.done
 
@@ -82,7 +82,7 @@ module _ {D : Type 0} (view : D → View) (files : Files) (time : ℕ) (old now 
       all_done : so_far.done ≡ all_expired files.size run time
       all_done = sym (so_far.all_is ∙ ap (λ (l : List Act). so_far.done ++ l) (none_left files.size so_far.left here time why is) ∙ append-nil so_far.done)
 
-  module _ (session index : ℕ) (new : Seen D Parts) (is : expiry here time ≡ Expires session) where
+  module _ (session index : ℕ) (new : HostState D Parts) (is : expiry here time ≡ Expires session) where
     abbrev this : Act
     this = expired_answer here time session
 
@@ -117,7 +117,7 @@ module _ {D : Type 0} (view : D → View) (files : Files) (time : ℕ) (old now 
         (within files (this ∷ []) rest (view now.disk) w here written' written'' ending e))
 
   -- the call failed
-  pub failed : (new : Seen D Parts) (ending : Ending) → IsCut files (view now.disk) (view new.disk) here (change_of (expiry here time) time) ending
+  pub failed : (new : HostState D Parts) (ending : Ending) → IsCut files (view now.disk) (view new.disk) here (change_of (expiry here time) time) ending
       → HasEnded files (all_expired files.size run time) (view old.disk) (view new.disk) run written written' ending
   failed new ending cut = by (expiry here time) refl cut
     where
@@ -134,13 +134,13 @@ module _ {D : Type 0} (view : D → View) (files : Files) (time : ℕ) (old now 
       by (Not_now why) is cut = none (Some why) is cut
 
 -- the same of a host that is as it was
-pub expired_as : {D : Type 0} (view : D → View) (files : Files) (time : ℕ) (old mid new : Seen D Parts) (run : Run) (written written' : Option (List ℕ)) (why : Option Refusal) → new ≡ mid
+pub expired_as : {D : Type 0} (view : D → View) (files : Files) (time : ℕ) (old mid new : HostState D Parts) (run : Run) (written written' : Option (List ℕ)) (why : Option Refusal) → new ≡ mid
     → HasExpired view files time old mid run written written' why → HasExpired view files time old new run written written' why
-expired_as view files time old mid new run written written' why same gone = subst (λ (h : Seen _ Parts). HasExpired view files time old h run written written' why) (sym same) gone
+expired_as view files time old mid new run written written' why same gone = subst (λ (h : HostState _ Parts). HasExpired view files time old h run written written' why) (sym same) gone
 
 -- ---- the offer itself
 
-module _ {D : Type 0} (view : D → View) (files : Files) (one : Offer) (old mid : Seen D Parts) (run : Run) (written written' : Option (List ℕ)) where
+module _ {D : Type 0} (view : D → View) (files : Files) (one : Offer) (old mid : HostState D Parts) (run : Run) (written written' : Option (List ℕ)) where
   module _ (why : Option Refusal) (gone : HasExpired view files one.time old mid run written written' why) where
     abbrev there : Run
     there = after files.size run (all_expired files.size run one.time)
@@ -151,7 +151,7 @@ module _ {D : Type 0} (view : D → View) (files : Files) (one : Offer) (old mid
     offered_is : offered files.size run one ≡ all_expired files.size run one.time ++ the_answer ∷ []
     offered_is = λ i. all_expired files.size run one.time ++ answer_after (gone.next i) there one ∷ []
 
-    pub offer_answers : (new : Seen D Parts) (written'' : Option (List ℕ)) → {T : Type 0} (r : Result T Ending) → Answers view files (the_answer ∷ []) mid new there written' written'' r → Answers view files (offered files.size run one) old new run written written'' r
+    pub offer_answers : (new : HostState D Parts) (written'' : Option (List ℕ)) → {T : Type 0} (r : Result T Ending) → Answers view files (the_answer ∷ []) mid new there written' written'' r → Answers view files (offered files.size run one) old new run written written'' r
     offer_answers new written'' (Ok x) a = subst (λ (l : List Act). HasAnswered view files l old new run written written'') (sym offered_is)
         (then_answered view files (all_expired files.size run one.time) old mid run written written' gone.all (the_answer ∷ []) new written'' a)
     offer_answers new written'' (Err ending) e = subst (λ (l : List Act). HasEnded files l (view old.disk) (view new.disk) run written written'' ending) (sym offered_is)

@@ -1,17 +1,16 @@
 -- For the laws of folders that are in order.
-use Rattle.std.proofs.Common.{◌≡◌, ◌≤◌, ℕ, List, [], length, take, Option, Some, None, refl, sym, ap, ◌∙◌, subst, arith, Contains, length-take}
+use Rattle.std.proofs.Common.{◌≡◌, ℕ, List, [], length, take, Option, Some, None, refl, sym, ap, ◌∙◌, subst, arith, length-take}
 use Rattle.disk_model.specs.declared.file_id.FileId.{FileId}
 use Rattle.disk_model.specs.Image.{Image, place}
 use Rattle.disk_model.specs.View.{View, EachSettled, IsListed, MayLeave}
-use Rattle.host_types.specs.declared.entry.Entry.{Entry}
 use Rattle.segment_files.specs.Folder.{Folder, IsChoice, Stands, folder, found}
-use Rattle.segment_files.specs.Parse.{Closed, Found, Part}
+use Rattle.segment_files.specs.Parse.{Closed}
 use Rattle.segment_set.proofs.AreLogs.{are_none}
 use Rattle.segment_set.proofs.Images.{nothing}
 use Rattle.log_model.specs.plain.Admission.{Item}
 use Rattle.log_model.specs.plain.Stored.{stored}
-use Rattle.copycat_tool.specs.Logs.{IsLog, StandsFor}
-use Rattle.copycat_tool.specs.Runs.{HasPrefix, IsInOrder, IsInOrderFor}
+use Rattle.host_recovery.specs.Logs.{HasPrefix, IsInOrder, IsLog, StandsFor, plain_form}
+use Rattle.copycat_tool.specs.Runs.{IsInOrderFor}
 use Rattle.copycat_tool.proofs.LogLemmas.{logged_front}
 use Rattle.copycat_tool.proofs.Prefixes.{all_of}
 
@@ -40,25 +39,25 @@ module _ (v : View) (settled : EachSettled v) where
       at None is = is
       at (Some bytes) is = absurd (none id (bytes, is))
 
-  pub empty_in_order : (name : List ℕ) → ((id : FileId) → v.reading (place name id) ≡ None) → IsInOrder name v [] 0
+  pub empty_in_order : (name : List ℕ) → ((id : FileId) → v.reading (place name id) ≡ None) → IsInOrder plain_form v name [] 0
   empty_in_order name none = record {
-    logged = record { admitted = refl; fits = tt };
+    log = record { admitted = refl; fits = tt };
     each = λ image may. all_of name [] 0 image (omega arith) (record { parts = []; choice = no_parts (folder name image) (closed_files name none image may); are = are_none });
     empty = λ no image may. no_parts (folder name image) (closed_files name none image may);
   }
 
   -- what is read stands for a log, and so does whatever a crash leaves
-  pub settled_in_order : (name : List ℕ) (log : List Item) → IsLog log → StandsFor name v.reading log → IsInOrder name v log (length log)
+  pub settled_in_order : (name : List ℕ) (log : List Item) → IsLog plain_form log → StandsFor plain_form name v.reading log → IsInOrder plain_form v name log (length log)
   settled_in_order name log logged stands = record {
-    logged = logged;
+    log = logged;
     each = λ image may. all_of name log (length log) image (omega arith) (subst (λ (f : Folder). Stands f (stored log)) (sym (same_files name image may)) stands);
     empty = λ no image may. no_parts (folder name image) (closed_files name (unlisted name no) image may);
   }
 
-  pub crashed_in_order : (name : List ℕ) (log : List Item) (least : ℕ) → IsLog log → HasPrefix name log least v.reading → IsInOrderFor name v log least
+  pub crashed_in_order : (name : List ℕ) (log : List Item) (least : ℕ) → IsLog plain_form log → HasPrefix plain_form name log least v.reading → IsInOrderFor v name log least
   crashed_in_order name log least logged p = record {
     count = p.count;
     enough = p.enough;
     within = p.within;
-    in_order = subst (IsInOrder name v (take p.count log)) (omega (arith, length-take p.count log, p.within)) (settled_in_order name (take p.count log) (logged_front p.count log logged) p.is);
+    in_order = subst (IsInOrder plain_form v name (take p.count log)) (omega (arith, length-take p.count log, p.within)) (settled_in_order name (take p.count log) (logged_front p.count log logged) p.stands);
   }

@@ -3,7 +3,7 @@ use Rattle.std.proofs.Common.{◌≡◌, ◌∙◌, ℕ, ◌≤◌, List, Bool, 
 use Rattle.disk_model.specs.View.{View}
 use Rattle.script_io.specs.Streams.{Rose}
 use Rattle.segment_set.specs.Fits.{KeepsNames}
-use Rattle.host_recovery.specs.Seen.{Seen}
+use Rattle.host_recovery.specs.HostState.{HostState}
 use Rattle.resource_catalog.specs.Parts.{Parts}
 use Rattle.copycat_tool.specs.declared.ending.Ending.{Ending}
 use Rattle.copycat_tool.specs.Turning.{KeepsRun, goes_on}
@@ -24,7 +24,7 @@ rose_before a b c rose le = omega (arith, rose, le)
 
 module _ {D : Type 0} (tells : Bool) (view : D → View) (faults : D → ℕ) where
   -- before the first part
-  pub keeps_first : (h : Seen D Parts) (sink : ℕ) → KeepsRun tells view faults h h sink sink ⊥ goes_on
+  pub keeps_first : (h : HostState D Parts) (sink : ℕ) → KeepsRun tells view faults h h sink sink ⊥ goes_on
   keeps_first h sink = record {
     others = λ t. record { reading = λ q isnt. refl; left = λ q o isnt held. held };
     name_is = refl;
@@ -37,7 +37,7 @@ module _ {D : Type 0} (tells : Bool) (view : D → View) (faults : D → ℕ) wh
   }
 
   -- a call on the host, and a line
-  pub keeps_on : (old new : Seen D Parts) (read_failed : Type 0) {T : Type 0} (result : Result T Ending) → KeepsRun tells view faults old new 0 0 read_failed result → (sink sink' : ℕ) → sink ≤ sink' → KeepsRun tells view faults old new sink sink' ⊥ goes_on
+  pub keeps_on : (old new : HostState D Parts) (read_failed : Type 0) {T : Type 0} (result : Result T Ending) → KeepsRun tells view faults old new 0 0 read_failed result → (sink sink' : ℕ) → sink ≤ sink' → KeepsRun tells view faults old new sink sink' ⊥ goes_on
   keeps_on old new read_failed result keeps sink sink' later = record {
     others = keeps.others;
     name_is = keeps.name_is;
@@ -50,7 +50,7 @@ module _ {D : Type 0} (tells : Bool) (view : D → View) (faults : D → ℕ) wh
   }
 
   -- a part more
-  pub keeps_further : (old mid new : Seen D Parts) (sink sink' sink'' : ℕ) → KeepsRun tells view faults old mid sink sink' ⊥ goes_on → (read_failed read_failed' : Type 0) → (read_failed → read_failed') → {T : Type 0} (result : Result T Ending)
+  pub keeps_further : (old mid new : HostState D Parts) (sink sink' sink'' : ℕ) → KeepsRun tells view faults old mid sink sink' ⊥ goes_on → (read_failed read_failed' : Type 0) → (read_failed → read_failed') → {T : Type 0} (result : Result T Ending)
       → KeepsRun tells view faults mid new sink' sink'' read_failed result → KeepsRun tells view faults old new sink sink'' read_failed' result
   keeps_further old mid new sink sink' sink'' first read_failed read_failed' reads result more = record {
     others = λ t. others_further (view old.disk) (view mid.disk) (view new.disk) old.parts.name mid.parts.name first.name_is (first.others t) (more.others t);

@@ -13,7 +13,7 @@ use Rattle.log_model.specs.hosted.Sound.{IsSessionSound}
 use Rattle.log_model.specs.plain.Step.{step, fold_from, folded, with_batches, told_close}
 use Rattle.log_model.specs.plain.Stored.{is_admitted, is_log_from}
 use Rattle.log_model.specs.cleaning.Layout.{Layout}
-use Rattle.copycat_tool.specs.Logs.{IsLog}
+use Rattle.host_recovery.specs.Logs.{IsLog, plain_form}
 use Rattle.host_recovery.specs.Answers.{if_filed}
 use Rattle.copycat_tool.specs.Report.{admits_file, expiry_in}
 
@@ -36,7 +36,7 @@ each_more : (P : Item → Type 0) (items : List Item) (item : Item) → AllByRec
 each_more P [] item all here = (here, tt)
 each_more P (x ∷ items) item all here = (all.0, each_more P items item all.1 here)
 
-pub logged_more : (log : List Item) (item : Item) → IsLog log → is_admitted (folded log) item ≡ true → ItemFits item → IsLog (log ++ item ∷ [])
+pub logged_more : (log : List Item) (item : Item) → IsLog plain_form log → is_admitted (folded log) item ≡ true → ItemFits item → IsLog plain_form (log ++ item ∷ [])
 logged_more log item is here fits = record {
   admitted = log_more nothing_yet log item is.admitted here;
   fits = each_more ItemFits log item is.fits fits;
@@ -56,7 +56,7 @@ log_front s (suc n) (x ∷ items) log =
     let p = and_parts (is_admitted s x) (is_log_from (step s x) items) log in
     (λ i. p.0 i && log_front (step s x) n items p.1 i)
 
-pub logged_front : (n : ℕ) (log : List Item) → IsLog log → IsLog (take n log)
+pub logged_front : (n : ℕ) (log : List Item) → IsLog plain_form log → IsLog plain_form (take n log)
 logged_front n log is = record {
   admitted = log_front nothing_yet n log is.admitted;
   fits = each_front ItemFits n log is.fits;

@@ -4,18 +4,18 @@ use Rattle.std.proofs.lemmas.List.{append-nil, take_all}
 use Rattle.std.proofs.lemmas.Bool.Decides.{nat_tests}
 use Rattle.std.proofs.Math.Seq.{take-append-add, take-append_seam}
 use Rattle.disk_model.specs.View.{View}
-use Rattle.host_recovery.specs.Seen.{Seen}
+use Rattle.host_recovery.specs.HostState.{HostState}
 use Rattle.resource_catalog.specs.Parts.{Parts}
 use Rattle.copycat_tool.specs.Script.{command, line_limit, script_limit}
 use Rattle.copycat_tool.specs.Report.{Run, Act, Report, Cut, Whole, Broken, Above, after, report, one, ends, in_front, last_piece, cut_of, printed}
 use Rattle.copycat_tool.specs.declared.ending.Ending.{Ending}
 use Rattle.copycat_tool.specs.declared.ending.Ending.TheVariants.{Done, Fault, TooLong, ReadFault, WriteFault, DiskFault, NoMemory, Damaged}
-use Rattle.copycat_tool.specs.Reading.{Finds, TakesMore, EndsAt, IsShort, IsTooLong}
+use Rattle.copycat_tool.specs.Pieces.{Finds, TakesMore, EndsAt, IsShort, IsTooLong}
 use Rattle.copycat_tool.specs.declared.reader.Piece.{Piece}
 use Rattle.copycat_tool.specs.declared.reader.ReadError.{ReadError}
 use Rattle.copycat_tool.specs.Runs.{Files, Ended, IsComplete, Wrote, came, reported}
-use Rattle.copycat_tool.specs.Standing.{IsAt, IsAtRest}
-use Rattle.copycat_tool.specs.Taking.{HasClients}
+use Rattle.copycat_tool.specs.RunStanding.{IsAt, IsAtRest}
+use Rattle.copycat_tool.specs.ClientTakes.{HasClients}
 use Rattle.copycat_tool.specs.Turning.{HasEndedIn, HasRun, HasTurned}
 use Rattle.copycat_tool.specs.declared.clients.Clients.{Clients}
 use Rattle.copycat_tool.proofs.ReportLemmas.{report_at, report_none, report_long}
@@ -24,7 +24,7 @@ use Rattle.copycat_tool.proofs.Progress.{SoFar, at_first, one_more, stays, ends_
 use Rattle.copycat_tool.proofs.Writing.{wrote_as, wrote_more, wrote_none}
 
 -- So many lines were answered, and this is held and left of the script.
-pub record Met {D : Type 0} (view : D → View) (files : Files) (old now : Seen D Parts) (first : Run) (number : ℕ) (script held : List ℕ) (taken : ℕ) (left : Option (List ℕ)) (written written' : Option (List ℕ)) (clients : Clients) : Type 0 where
+pub record Met {D : Type 0} (view : D → View) (files : Files) (old now : HostState D Parts) (first : Run) (number : ℕ) (script held : List ℕ) (taken : ℕ) (left : Option (List ℕ)) (written written' : Option (List ℕ)) (clients : Clients) : Type 0 where
   pub consumed : List ℕ
   pub rest : List ℕ
   pub so_far : SoFar files first number consumed (view old.disk) (view now.disk)
@@ -152,7 +152,7 @@ other size (Damaged base generation at) first script left isnt = refl
 
 module _ {D : Type 0} (view : D → View) (files : Files) where
   -- before the first piece
-  pub met_first : (h : Seen D Parts) (first : Run) → IsAt view files h first → (script held : List ℕ) (taken : ℕ) (left : Option (List ℕ)) (written : Option (List ℕ)) (clients : Clients)
+  pub met_first : (h : HostState D Parts) (first : Run) → IsAt view files h first → (script held : List ℕ) (taken : ℕ) (left : Option (List ℕ)) (written : Option (List ℕ)) (clients : Clients)
       → held ≡ [] → taken ≡ 0 → left ≡ Some script → HasClients first clients → Met view files h h first 1 script held taken left written written clients
   met_first h first at script held taken left written clients none zero left_is are = record {
     consumed = [];
@@ -166,7 +166,7 @@ module _ {D : Type 0} (view : D → View) (files : Files) where
     clients_are = are;
   }
 
-  module _ (old now : Seen D Parts) (first : Run) (number : ℕ) (script held : List ℕ) (taken : ℕ) (left : Option (List ℕ)) (written written' : Option (List ℕ)) (clients : Clients)
+  module _ (old now : HostState D Parts) (first : Run) (number : ℕ) (script held : List ℕ) (taken : ℕ) (left : Option (List ℕ)) (written written' : Option (List ℕ)) (clients : Clients)
       (m : Met view files old now first number script held taken left written written' clients) where
     abbrev v : View
     v = view old.disk
@@ -241,7 +241,7 @@ module _ {D : Type 0} (view : D → View) (files : Files) where
             (other files.size ending first script left' isnt ∙ at_line files first number v w m.consumed m.so_far script held' f.rest parts' limit' n at)
 
         -- a line was answered
-        pub after_turn : (n : ℕ) → EndsAt held' n → left' ≡ Some f.rest → (line : List ℕ) → line ≡ take n held' → (new : Seen D Parts) (written'' : Option (List ℕ)) (clients' : Clients) → HasTurned view files line now new here written' written'' clients'
+        pub after_turn : (n : ℕ) → EndsAt held' n → left' ≡ Some f.rest → (line : List ℕ) → line ≡ take n held' → (new : HostState D Parts) (written'' : Option (List ℕ)) (clients' : Clients) → HasTurned view files line now new here written' written'' clients'
             → (skipped : List ℕ) → skipped ≡ drop (n + 1) held' → (taken'' : ℕ) → taken'' ≡ taken' → Met view files old new first (number + 1) script skipped taken'' left' written written'' clients'
         after_turn n at left_is line is new written'' clients' turned skipped skipped_is taken'' taken_same = record {
           consumed = m.consumed ++ (take n held' ++ 10 ∷ []);

@@ -1,74 +1,50 @@
 -- From the opening of a log to the end of the run over it.
-use Rattle.std.proofs.Common.{◌≡◌, ◌⊎◌, inl, inr, ⊎_elim, refl, subst, ℕ, ◌≤◌, List, [], ◌∷◌, ◌++◌, length, take, Option, Some, refl, sym, ap, ◌∙◌, arith, Contains}
-use Rattle.host_types.specs.declared.entry.Entry.{Entry}
-use Rattle.disk_model.specs.declared.file_id.FileId.{FileId}
+use Rattle.std.proofs.Common.{◌≡◌, ◌⊎◌, inl, inr, ⊎_elim, refl, subst, ℕ, ◌≤◌, List, length, take, Option, refl, sym}
 use Rattle.disk_model.specs.Image.{Image}
 use Rattle.disk_model.specs.View.{View, GoesOn, IsSound, LeavesOnly}
 use Rattle.disk_model.proofs.Moments.{has_now, weaker}
-use Rattle.disk_model.proofs.Places.{own}
-use Rattle.segment_files.specs.Parse.{Part}
-use Rattle.segment_files.specs.Folder.{folder, AreOf, IsFault, Stands}
+use Rattle.segment_files.specs.Folder.{folder, IsFault}
 use Rattle.segment_set.specs.Fits.{IsEmptyWhereNone}
 use Rattle.segment_set.specs.declared.opening.OpenError.{OpenError}
 use Rattle.segment_set.specs.declared.opening.OpenError.TheVariants as errors
 use Rattle.segment_set.specs.Opening.{id_from}
-use Rattle.segment_set.proofs.Images.{nothing, only_one}
-use Rattle.segment_set.proofs.Faultless.{no_fault}
 use Rattle.log_model.specs.plain.Admission.{Item}
 use Rattle.log_model.specs.hosted.PlainMachine.{HostsArePlain}
 use Rattle.log_model.specs.plain.Step.{folded}
 use Rattle.log_model.specs.serving.Positions.{acked_positions}
-use Rattle.host_recovery.specs.Opening.{HasPrefix as HostHasPrefix, IsInOrder as HostIsInOrder}
 use Rattle.resource_catalog.specs.Catalog.{catalog_decision}
 use Rattle.copycat_tool.specs.Report.{Run}
 use Rattle.host_recovery.specs.Lying.{Lies}
-use Rattle.copycat_tool.specs.Logs.{IsLog, StandsFor}
+use Rattle.host_recovery.specs.Logs.{HasPrefix, IsInOrder, IsLog, StandsFor, hosted_form, plain_form}
 use Rattle.copycat_tool.specs.declared.ending.Ending.{Ending}
 use Rattle.copycat_tool.specs.declared.ending.Ending.TheVariants.{Damaged, DiskFault, NoMemory, ReadFault, WriteFault}
 use Rattle.copycat_tool.specs.Closing.{EndsRun}
 use Rattle.copycat_tool.specs.Endings.{ending_of}
-use Rattle.copycat_tool.specs.Runs.{BeginsAcked, BeginsAtPoints, Files, HasPrefix, IsInOrder, RanSo}
+use Rattle.copycat_tool.specs.Runs.{BeginsAcked, BeginsAtPoints, Files, RanSo}
 use Rattle.copycat_tool.specs.Programs.{IsUnopened, OpensAndRuns, StaysUnopened}
 use Rattle.copycat_tool.proofs.CallLemmas.{as_hosted, hosted_files, plain_files}
 use Rattle.copycat_tool.proofs.LogLemmas.{logged_front}
 
 -- PLAIN LOGS AND THOSE OF THE HOST
 
-module _ (law : HostsArePlain catalog_decision) (name : List ℕ) (log : List Item) (least : ℕ) (logged : IsLog log) where
-  hosted_prefix : (image : Image) → HasPrefix name log least image → HostHasPrefix catalog_decision name log least image
-  hosted_prefix image p = record { count = p.count; enough = p.enough; within = p.within; stands = hosted_files law name (take p.count log) (logged_front p.count log logged) image p.is }
+module _ (law : HostsArePlain catalog_decision) (name : List ℕ) (log : List Item) (least : ℕ) (logged : IsLog plain_form log) where
+  hosted_prefix : (image : Image) → HasPrefix plain_form name log least image → HasPrefix (hosted_form catalog_decision) name log least image
+  hosted_prefix image p = record { count = p.count; enough = p.enough; within = p.within; stands = hosted_files law name (take p.count log) (logged_front p.count log logged) image p.stands }
 
-  plain_prefix : (image : Image) → HostHasPrefix catalog_decision name log least image → HasPrefix name log least image
-  plain_prefix image p = record { count = p.count; enough = p.enough; within = p.within; is = plain_files law name name (take p.count log) (logged_front p.count log logged) refl image p.stands }
+  plain_prefix : (image : Image) → HasPrefix (hosted_form catalog_decision) name log least image → HasPrefix plain_form name log least image
+  plain_prefix image p = record { count = p.count; enough = p.enough; within = p.within; stands = plain_files law name name (take p.count log) (logged_front p.count log logged) refl image p.stands }
 
   -- a folder that is in order is so for the host
-  pub to_hosted : (v : View) → IsInOrder name v log least → HostIsInOrder catalog_decision v name log least
+  pub to_hosted : (v : View) → IsInOrder plain_form v name log least → IsInOrder (hosted_form catalog_decision) v name log least
   to_hosted v order = record { log = as_hosted law log logged; each = λ image may. hosted_prefix image (order.each image may); empty = order.empty }
 
   -- and what is left of the log stands for a prefix of it
-  pub left_plain : (v w : View) → LeavesOnly v w (HostHasPrefix catalog_decision name log least) → LeavesOnly v w (HasPrefix name log least)
+  pub left_plain : (v w : View) → LeavesOnly v w (HasPrefix (hosted_form catalog_decision) name log least) → LeavesOnly v w (HasPrefix plain_form name log least)
   left_plain v w only = weaker v w _ _ only plain_prefix
 
   -- so it is still in order
-  pub still_in_order : (v w : View) → IsSound w → LeavesOnly v w (HasPrefix name log least) → IsEmptyWhereNone w name → IsInOrder name w log least
-  still_in_order v w sound only empty = record { logged = logged; each = λ image may. has_now v w (HasPrefix name log least) sound only image may; empty = empty }
-
--- NO FAULT
-
-based : (parts : List Part) (log : List Entry) → length parts ≤ 1 → AreOf parts log → (p : Part) → Contains parts p → p.id.base ≡ 1
-based [] log short are p has = absurd (nothing p has)
-based (x ∷ []) log short are p has = ap (λ (r : Part). r.id.base) (sym (only_one x p has)) ∙ are.tile.0
-based (x ∷ y ∷ parts) log short are p has = absurd (omega (arith, short))
-
--- a folder that stands for a log has none
-stands_no_fault : (v : View) (name : List ℕ) (log : List Entry) (id : FileId) (at : ℕ) → Stands (folder name v.reading) log → IsFault (folder name v.reading) id at → ⊥
-stands_no_fault v name log id at s fault = no_fault v name s.parts id at s.choice (based s.parts log s.choice.one s.are) fault
-
--- nor where every crash leaves a log
-pub in_order_no_fault : (v : View) (name : List ℕ) (log : List Item) (least : ℕ) (id : FileId) (at : ℕ) → IsSound v → IsInOrder name v log least → IsFault (folder name v.reading) id at → ⊥
-in_order_no_fault v name log least id at sound order fault =
-    let p = order.each v.reading (λ q. own v sound q) in
-    stands_no_fault v name _ id at p.is fault
+  pub still_in_order : (v w : View) → IsSound w → LeavesOnly v w (HasPrefix plain_form name log least) → IsEmptyWhereNone w name → IsInOrder plain_form w name log least
+  still_in_order v w sound only empty = record { log = logged; each = λ image may. has_now v w (HasPrefix plain_form name log least) sound only image may; empty = empty }
 
 -- AN OPENING THAT FAILED
 
@@ -119,7 +95,7 @@ of_calls errors.NoMemory (inr is) = cc is
 
 -- up to the moment when it was open a crash leaves what the log was in order for
 pub opens_and_runs : (files : Files) (log : List Item) (least : ℕ) (script : List ℕ) (left : Option (List ℕ)) (v m w : View) (text : List ℕ) (status : ℕ) (read_failed failed failed' : Type 0) (run : Run) (count : ℕ) → least ≤ count → count ≤ length log
-    → run.log ≡ take count log → StandsFor files.name v.reading run.log → Lies files.name v.reading run.layout → run.confirmed ≡ acked_positions (folded run.log).sessions → BeginsAcked run → BeginsAtPoints run → LeavesOnly v m (HasPrefix files.name log least) → GoesOn m w → (failed → failed')
+    → run.log ≡ take count log → StandsFor plain_form files.name v.reading run.log → Lies files.name v.reading run.layout → run.confirmed ≡ acked_positions (folded run.log).sessions → BeginsAcked run → BeginsAtPoints run → LeavesOnly v m (HasPrefix plain_form files.name log least) → GoesOn m w → (failed → failed')
     → RanSo files run script left m.moment w text status read_failed failed → OpensAndRuns files log least script left v w text status read_failed failed'
 opens_and_runs files log least script left v m w text status read_failed failed failed' run count enough within log_is read lies confirmed clients points opening time fails ran = record {
   run = run;

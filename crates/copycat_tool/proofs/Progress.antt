@@ -1,8 +1,7 @@
 -- How far a run has come, and how it ends from there.
-use Rattle.std.proofs.Common.{◌≡◌, inl, inr, ⊎_elim, ◌⊎◌, ℕ, ◌+◌, ◌≤◌, List, [], ◌∷◌, ◌++◌, length, take, drop, false, refl, ap, sym, ◌∙◌, subst, arith, append_assoc, length-append}
+use Rattle.std.proofs.Common.{◌≡◌, inl, inr, ℕ, ◌+◌, List, [], ◌∷◌, ◌++◌, length, take, drop, false, refl, ap, sym, ◌∙◌, subst, arith, append_assoc, length-append}
 use Rattle.std.proofs.Math.Seq.{take-append-add, drop-append-add}
-use Rattle.disk_model.specs.Image.{Image}
-use Rattle.disk_model.specs.View.{View, GoesOn, MayLeave}
+use Rattle.disk_model.specs.View.{View}
 use Rattle.disk_model.proofs.Moments.{stood, went_on}
 use Rattle.log_model.specs.plain.Admission.{Item}
 use Rattle.log_model.specs.cleaning.Layout.{alone}
@@ -11,8 +10,9 @@ use Rattle.copycat_tool.specs.Script.{has_feed}
 use Rattle.copycat_tool.specs.Report.{Run, Act, Report, Cut, report, in_front, after, printed}
 use Rattle.copycat_tool.specs.declared.ending.Ending.{Ending}
 use Rattle.copycat_tool.specs.declared.ending.Ending.TheVariants.{Done, Fault, TooLong, ReadFault, WriteFault, DiskFault, NoMemory, Damaged}
-use Rattle.copycat_tool.specs.Runs.{Did, Files, Ended, EndedSo, EndsAs, Follows, HasPrefix, IsAnswered, IsComplete, IsInOrder, IsPartOfNext, IsSomeLines, StandsEither, WereOffered, is_by_call, log_at}
-use Rattle.copycat_tool.specs.Standing.{IsAtRest}
+use Rattle.host_recovery.specs.Logs.{IsInOrder, plain_form}
+use Rattle.copycat_tool.specs.Runs.{Did, Files, Ended, EndedSo, EndsAs, Follows, IsAnswered, IsComplete, IsPartOfNext, IsSomeLines, StandsEither, WereOffered, is_by_call, log_at}
+use Rattle.copycat_tool.specs.RunStanding.{IsAtRest}
 use Rattle.copycat_tool.proofs.Offering.{none_offered, offered_more}
 use Rattle.copycat_tool.proofs.Following.{did_more, follows-append, still_follows}
 use Rattle.copycat_tool.proofs.ReportLemmas.{report_at}
@@ -23,8 +23,8 @@ pub did_nothing : (files : Files) (run : Run) (v : View) → IsAtRest files v ru
 did_nothing files run v rest = record { time = stood v rest.sound; follows = refl; offered = none_offered files run }
 
 -- a folder at rest is in order for all of its log
-pub at_rest_in_order : (files : Files) (run : Run) (v : View) → IsAtRest files v run → IsInOrder files.name v run.log (length run.log)
-at_rest_in_order files run v rest = record { logged = rest.logged; each = λ image may. all_of files.name run.log (length run.log) image (omega arith) (rest.kept image may); empty = rest.empty }
+pub at_rest_in_order : (files : Files) (run : Run) (v : View) → IsAtRest files v run → IsInOrder plain_form v files.name run.log (length run.log)
+at_rest_in_order files run v rest = record { log = rest.logged; each = λ image may. all_of files.name run.log (length run.log) image (omega arith) (rest.kept image may); empty = rest.empty }
 
 -- so many lines were read to their end and answered
 pub record SoFar (files : Files) (first : Run) (number : ℕ) (consumed : List ℕ) (old now : View) : Type 0 where
@@ -162,8 +162,8 @@ module _ (files : Files) where
               subst (λ (l : List Item). StandsEither files.name l (log_at files first (in_front done rest) (length done + e.stored)) image) (log_so e.sure)
               (subst (λ (l : List Item). StandsEither files.name (log_at files run rest e.sure) l image) (log_so e.stored) (e.since_then image left));
           at_exit =
-              subst (λ (l : List Item). IsInOrder files.name new l (length (log_at files first (in_front done rest) (length done + e.sure)))) (log_so e.stored)
-              (subst (λ (l : List Item). IsInOrder files.name new (log_at files run rest e.stored) (length l)) (log_so e.sure) e.at_exit);
+              subst (λ (l : List Item). IsInOrder plain_form new files.name l (length (log_at files first (in_front done rest) (length done + e.sure)))) (log_so e.stored)
+              (subst (λ (l : List Item). IsInOrder plain_form new files.name (log_at files run rest e.stored) (length l)) (log_so e.sure) e.at_exit);
           layout = λ is. subst (λ (r : Run). LiesAlone files.name new.reading (alone r.layout)) (after-append files.size first done rest.acts) (e.layout is);
         };
         offered = subst (WereOffered files first) (sym (front e.sure)) (offered_more files first done (take e.sure rest.acts) did.offered ended.offered);

@@ -13,7 +13,7 @@ use Rattle.copycat_tool.specs.declared.ending.Ending.{Ending}
 use Rattle.copycat_tool.specs.declared.ending.Ending.TheVariants.{Done, Fault, TooLong, ReadFault, WriteFault, DiskFault, NoMemory, Damaged}
 use Rattle.copycat_tool.specs.Report.{printed_lines}
 use Rattle.copycat_tool.specs.Runs.{Wrote}
-use Rattle.copycat_tool.specs.Taking.{ArePut, event_lines}
+use Rattle.copycat_tool.specs.ClientTakes.{ArePut, event_lines}
 use Rattle.copycat_tool.specs.Turning.{IsPut}
 use Rattle.copycat_tool.proofs.Writing.{wrote_as, wrote_more}
 

@@ -3,7 +3,7 @@ use Rattle.std.proofs.Common.{◌≡◌, ℕ, ◌+◌, ◌-◌, ◌≤◌, ◌==
 use Rattle.std.proofs.lemmas.List.{drop-drop, take_all}
 use Rattle.std.proofs.Math.Seq.{drop-append_seam, take-add}
 use Rattle.copycat_tool.specs.Script.{has_feed, script_limit}
-use Rattle.copycat_tool.specs.Reading.{EndsAt, IsFrontOf, IsTaken, TakesMore}
+use Rattle.copycat_tool.specs.Pieces.{EndsAt, IsFrontOf, IsTaken, TakesMore}
 
 pub takes_further : (left rest last held mid held' : List ℕ) (taken between taken' : ℕ)
     → TakesMore left held mid taken between rest → TakesMore rest mid held' between taken' last → TakesMore left held held' taken taken' last

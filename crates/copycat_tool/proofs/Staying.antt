@@ -7,7 +7,7 @@ use Rattle.copycat_tool.specs.declared.clients.Clients.{Clients}
 use Rattle.copycat_tool.specs.declared.lines.Command.{Command}
 use Rattle.copycat_tool.specs.declared.lines.Command.TheVariants as commands
 use Rattle.copycat_tool.specs.Report.{Run, Act, after, all_expired, admission, answer_after, answer_by, answers_to, changed, expired, expired_answer, expiry, offer_answer, offered, with_expired}
-use Rattle.copycat_tool.specs.Taking.{HasClients}
+use Rattle.copycat_tool.specs.ClientTakes.{HasClients}
 use Rattle.copycat_tool.proofs.Prefixes.{after-append}
 
 abbrev pub is_take : Command → Bool

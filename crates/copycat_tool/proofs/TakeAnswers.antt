@@ -15,7 +15,7 @@ use Rattle.log_model.specs.plain.Step.{folded}
 use Rattle.log_model.specs.serving.Batches.{Batch, Served, Taken, Nothing_new, Takes, Misses, batches, serve, take_batch}
 use Rattle.log_model.specs.serving.Serving.{IsOneOf}
 use Rattle.session_table.specs.Asked.{batch_at}
-use Rattle.host_recovery.specs.Seen.{Seen}
+use Rattle.host_recovery.specs.HostState.{HostState}
 use Rattle.resource_catalog.specs.Parts.{Parts}
 use Rattle.copycat_tool.specs.declared.clients.Clients.{Clients}
 use Rattle.copycat_tool.specs.declared.ending.Ending.{Ending}
@@ -23,8 +23,8 @@ use Rattle.copycat_tool.specs.declared.ending.Ending.TheVariants.{Done, Fault, T
 use Rattle.copycat_tool.specs.declared.taking.Next.TheVariants as nexts
 use Rattle.copycat_tool.specs.Report.{Run, Act, Confirms, Nothing, after, changed, client_at, offers, printed_lines, says, take_answer, take_from, turn_answer}
 use Rattle.copycat_tool.specs.Runs.{Did, Files, StandsEither, WereOffered}
-use Rattle.copycat_tool.specs.Standing.{IsAt, IsAtRest}
-use Rattle.copycat_tool.specs.Taking.{ArePut, HasClients, HasNext, IsConfirmed, IsStill, Keeps, client_of, event_lines}
+use Rattle.copycat_tool.specs.RunStanding.{IsAt, IsAtRest}
+use Rattle.copycat_tool.specs.ClientTakes.{ArePut, HasClients, HasNext, IsConfirmed, IsStill, Keeps, client_of, event_lines}
 use Rattle.copycat_tool.specs.Turning.{Answers, IsPut}
 use Rattle.copycat_tool.proofs.Following.{follows_one}
 use Rattle.copycat_tool.proofs.Offering.{confirmed_offered, nothing_offered, offers_nothing, taken_offered}
@@ -32,7 +32,7 @@ use Rattle.copycat_tool.proofs.TakingLemmas.{at_confirmed, made_still, rest_as, 
 use Rattle.copycat_tool.proofs.TurnLemmas.{cut_in_lines, put_told}
 use Rattle.copycat_tool.proofs.Writing.{wrote_as}
 
-module _ {D : Type 0} (view : D → View) (files : Files) (old new : Seen D Parts) (run : Run) (this : Act) (at : IsAt view files old run) (still : IsStill old new)
+module _ {D : Type 0} (view : D → View) (files : Files) (old new : HostState D Parts) (run : Run) (this : Act) (at : IsAt view files old run) (still : IsStill old new)
     (same_log : (changed files.size run this.does).log ≡ run.log) (same_layout : (changed files.size run this.does).layout ≡ run.layout) (offered : WereOffered files run (this ∷ [])) where
   next : Run
   next = changed files.size run this.does
@@ -82,7 +82,7 @@ act_is : (run : Run) (session last : ℕ) (x : Session) (served : Served) → se
 act_is run session last x served opened same is =
     ap (λ (o : Option Session). take_from run session o) opened ∙ ap (λ (s : Served). turn_answer run session s) (ap (λ (n : ℕ). serve n (offers run session x)) (sym same) ∙ is)
 
-module _ {D : Type 0} (view : D → View) (files : Files) (session : ℕ) (old mid : Seen D Parts) (run : Run) (last last' : ℕ) (at : IsAt view files old run) (same : last ≡ client_at run session) (still : IsStill old mid) (written written' : Option (List ℕ)) (sink sink' : ℕ) where
+module _ {D : Type 0} (view : D → View) (files : Files) (session : ℕ) (old mid : HostState D Parts) (run : Run) (last last' : ℕ) (at : IsAt view files old run) (same : last ≡ client_at run session) (still : IsStill old mid) (written written' : Option (List ℕ)) (sink sink' : ℕ) where
   pub nothing_answered : HasNext view files session old mid run last last' nexts.Nothing → {T : Type 0} (r : Result T Ending) → IsPut written written' sink sink' (printed_line (prints.Nothing session)) r → Answers view files (take_answer run session ∷ []) old mid run written written' r
   nothing_answered n r put =
       let served : Served = record { confirmed = n.known; turn = Nothing_new } in
@@ -106,7 +106,7 @@ module _ {D : Type 0} (view : D → View) (files : Files) (session : ℕ) (old m
       subst (λ (a : Act). Answers view files (a ∷ []) old mid run written written' r) (sym (ap (λ (o : Option Session). take_from run session o) none))
       (put_line view files old mid run act at still refl refl (offers_nothing files run act Nothing (nothing_offered files run) refl) (prints.Refused (NoSession session)) refl there written written' sink sink' r put)
 
-  module _ (n : HasNext view files session old mid run last last' nexts.Taken) (new : Seen D Parts) (more : IsStill mid new) where
+  module _ (n : HasNext view files session old mid run last last' nexts.Taken) (new : HostState D Parts) (more : IsStill mid new) where
     b : Batch
     b = n.is.0
 

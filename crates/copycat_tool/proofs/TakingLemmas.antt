@@ -1,53 +1,40 @@
 -- What a client takes of what its session is served.
-use Rattle.std.proofs.Common.{◌≡◌, ◌⊎◌, inl, inr, ℕ, suc, ◌+◌, ◌≤◌, ◌<◌, cond, ◌==◌, nat_le, nat_lt, Bool, true, false, List, [], ◌∷◌, ◌++◌, length, map, Option, Some, None, is_some, is_none, Result, Ok, Err, IsTrue, refl, ap, sym, ◌∙◌, subst, ◌||◌, eq-eqb, arith, ltb-true, ltb-false, append_assoc}
+use Rattle.std.proofs.Common.{◌≡◌, inl, ℕ, ◌+◌, ◌≤◌, ◌<◌, cond, ◌==◌, nat_lt, Bool, true, false, List, [], ◌∷◌, ◌++◌, length, Option, Some, None, is_some, is_none, IsTrue, refl, ap, sym, ◌∙◌, subst, arith, ltb-true, ltb-false, append_assoc}
 use Rattle.std.proofs.lemmas.List.{append-nil}
 use Rattle.std.proofs.lemmas.Bool.{le-ltb}
 use Rattle.std.specs.List.{find}
 use Rattle.std.specs.Option.{option_map_or}
 use Rattle.disk_model.specs.View.{View, LeavesOnly}
 use Rattle.disk_model.proofs.Moments.{started}
-use Rattle.log_model.specs.hosted.Hosted.{Hosted, hosted_folded}
+use Rattle.log_model.specs.hosted.Hosted.{Hosted}
 use Rattle.log_model.specs.hosted.PlainMachine.{HostsArePlain}
 use Rattle.log_model.specs.plain.Admission.{Item}
 use Rattle.log_model.specs.plain.Plain.{Session, session_of, session_in}
 use Rattle.log_model.specs.plain.Step.{folded}
-use Rattle.log_model.specs.serving.Batches.{Batch, Take, Taken, Repeated, Missed, Served, Turn, Nothing_new, Takes, Misses, batches, last_after, serve, served_one, take_batch}
+use Rattle.log_model.specs.serving.Batches.{Batch, Take, Taken, Repeated, Missed, Nothing_new, Takes, Misses, batches, last_after, serve, served_one, take_batch}
 use Rattle.log_model.specs.serving.Positions.{Position, event_at, moved_to, position_changed, with_confirmed}
 use Rattle.log_model.specs.serving.Serving.{IsOneOf, ServesInTurn, after_event, chained}
-use Rattle.session_table.specs.Asked.{batch_at, confirms_in, served_in}
-use Rattle.host_recovery.specs.Serving.{IsAcknowledged}
-use Rattle.host_recovery.specs.declared.serving.AckError.{AckError}
-use Rattle.host_recovery.specs.declared.serving.AckError.TheVariants as acks
-use Rattle.session_table.specs.Table.{Beside, IsOpen, Table, beside_changed, beside_confirmed, confirmed_of, confirmed_positions, session_at}
-use Rattle.host_core.specs.Seen.{hosted, Seen as InCore}
-use Rattle.host_recovery.specs.Seen.{Seen}
+use Rattle.session_table.specs.Asked.{batch_at, served_in}
+use Rattle.session_table.specs.Table.{Beside, IsOpen, confirmed_of, confirmed_positions, session_at}
+use Rattle.host_core.specs.CoreState.{CoreState}
+use Rattle.host_recovery.specs.HostState.{HostState}
 use Rattle.segment_set.specs.declared.parts.Parts.{Parts as FileParts}
 use Rattle.segment_set.specs.Fits.{IsHeld}
+use Rattle.host_recovery.specs.Logs.{IsLog, StandsFor, plain_form}
 use Rattle.host_recovery.specs.Standing.{layout_in, log_in}
 use Rattle.resource_catalog.specs.Catalog.{catalog_decision}
-use Rattle.resource_catalog.specs.Parts.{Parts, cells_of}
-use Rattle.copycat_tool.specs.Report.{Run, Act, Confirms, changed, client_at, offers, take_answer, take_from, turn_answer}
+use Rattle.resource_catalog.specs.Parts.{Parts}
+use Rattle.copycat_tool.specs.Report.{Run, Act, Confirms, changed, offers}
 use Rattle.copycat_tool.specs.Runs.{Files, StandsEither, WereOffered}
-use Rattle.copycat_tool.specs.Standing.{IsAt, IsAtRest, IsMade}
+use Rattle.copycat_tool.specs.RunStanding.{IsAt, IsAtRest, IsMade}
 use Rattle.event_batches.specs.declared.client.Take.TheVariants as says
 use Rattle.event_batches.specs.Taking.{answered}
 use Rattle.copycat_tool.specs.declared.taking.Next.TheVariants as nexts
-use Rattle.copycat_tool.specs.Taking.{HasNext, IsConfirmed, IsStill}
+use Rattle.copycat_tool.specs.ClientTakes.{HasNext, IsConfirmed, IsStill}
 use Rattle.copycat_tool.proofs.ClientLemmas.{last_taken_is, says_missed, says_taken}
 use Rattle.copycat_tool.proofs.CallLemmas.{sessions_are}
 
 -- ---- positions
-
-abbrev confirmed_at : Beside → Position
-confirmed_at b = record { session = b.id; event = b.confirmed }
-
-confirmed_moved : (id event : ℕ) (bs : List Beside) → confirmed_positions (beside_changed id (beside_confirmed event) bs) ≡ position_changed id (moved_to event) (confirmed_positions bs)
-confirmed_moved id event [] = refl
-confirmed_moved id event (b ∷ bs) = λ j. one (b.id == id) j ∷ confirmed_moved id event bs j
-  where
-    one : (q : Bool) → confirmed_at (cond q (beside_confirmed event b) b) ≡ cond q (moved_to event (confirmed_at b)) (confirmed_at b)
-    one true = refl
-    one false = refl
 
 pub confirmed_event : (id : ℕ) (bs : List Beside) → option_map_or (λ b. b.confirmed) (find (λ b. b.id == id) bs) 0 ≡ event_at 0 id (confirmed_positions bs)
 confirmed_event id [] = refl
@@ -68,15 +55,15 @@ module _ {D : Type 0} (view : D → View) (files : Files) where
   rest_as run run' v w same log layout rest =
       let here : IsAtRest files v run' = record {
         sound = rest.sound;
-        logged = subst (λ (l : List Item). Rattle.copycat_tool.specs.Logs.IsLog l) (sym log) rest.logged;
-        kept = λ image may. subst (λ (l : List Item). Rattle.copycat_tool.specs.Logs.StandsFor files.name image l) (sym log) (rest.kept image may);
+        logged = subst (λ (l : List Item). IsLog plain_form l) (sym log) rest.logged;
+        kept = λ image may. subst (λ (l : List Item). StandsFor plain_form files.name image l) (sym log) (rest.kept image may);
         empty = rest.empty;
         laid_out = subst (λ (l : Rattle.log_model.specs.cleaning.Layout.Layout). Rattle.host_recovery.specs.Lying.LiesAlone files.name v.reading (Rattle.log_model.specs.cleaning.Layout.alone l)) (sym layout) rest.laid_out;
       } in
       subst (λ (x : View). IsAtRest files x run') (sym same) here
 
   -- but for what its sessions have confirmed
-  pub at_confirmed : (old new : Seen D Parts) (run : Run) (session event : ℕ) (known : List ℕ) → IsAt view files old (changed files.size run (Confirms session known None)) → IsStill old new → IsConfirmed session event old new
+  pub at_confirmed : (old new : HostState D Parts) (run : Run) (session event : ℕ) (known : List ℕ) → IsAt view files old (changed files.size run (Confirms session known None)) → IsStill old new → IsConfirmed session event old new
       → IsAt view files new (changed files.size run (Confirms session (known ++ event ∷ []) None))
   at_confirmed old new run session event known at still confirmed = record {
     name_is = ap (λ p. p.name) still.parts ∙ at.name_is;
@@ -91,19 +78,19 @@ module _ {D : Type 0} (view : D → View) (files : Files) where
     last_is = ap (λ (s : Hosted). s.last) confirmed.state ∙ at.last_is;
     layout_is = (λ i. layout_in (view (still.disk i)) (still.parts i)) ∙ at.layout_is;
     file_is = at.file_is ∙ sym (ap (λ p. is_none p.tail) still.parts);
-    confirmed_is = ap confirmed_positions confirmed.beside ∙ confirmed_moved session event old.core.sessions.beside ∙ ap (λ (ps : List Position). position_changed session (moved_to event) ps) at.confirmed_is ∙ confirmed_one_more session event known run.confirmed;
+    confirmed_is = confirmed.positions ∙ ap (λ (ps : List Position). position_changed session (moved_to event) ps) at.confirmed_is ∙ confirmed_one_more session event known run.confirmed;
     rest = rest_as (changed files.size run (Confirms session known None)) (changed files.size run (Confirms session (known ++ event ∷ []) None)) (view old.disk) (view new.disk) (ap view still.disk) refl refl at.rest;
   }
 
   -- nothing was confirmed yet
-  at_first : (h : Seen D Parts) (run : Run) (session : ℕ) → IsAt view files h run → IsAt view files h (changed files.size run (Confirms session [] None))
+  at_first : (h : HostState D Parts) (run : Run) (session : ℕ) → IsAt view files h run → IsAt view files h (changed files.size run (Confirms session [] None))
   at_first h run session at = record { name_is = at.name_is; size_is = at.size_is; stands = at.stands; last_is = at.last_is; layout_is = at.layout_is; file_is = at.file_is; confirmed_is = at.confirmed_is; rest = rest_as run (changed files.size run (Confirms session [] None)) (view h.disk) (view h.disk) refl refl refl at.rest }
 
-  at_back : (h : Seen D Parts) (run : Run) (session : ℕ) → IsAt view files h (changed files.size run (Confirms session [] None)) → IsAt view files h run
+  at_back : (h : HostState D Parts) (run : Run) (session : ℕ) → IsAt view files h (changed files.size run (Confirms session [] None)) → IsAt view files h run
   at_back h run session at = record { name_is = at.name_is; size_is = at.size_is; stands = at.stands; last_is = at.last_is; layout_is = at.layout_is; file_is = at.file_is; confirmed_is = at.confirmed_is; rest = rest_as (changed files.size run (Confirms session [] None)) run (view h.disk) (view h.disk) refl refl refl at.rest }
 
   -- what is done to a host that stays where it is
-  pub made_still : (old new : Seen D Parts) (run : Run) (this : Act) → IsAt view files old run → IsStill old new → IsAt view files new (changed files.size run this.does) → (changed files.size run this.does).log ≡ run.log → WereOffered files run (this ∷ []) → IsMade view files old new run this
+  pub made_still : (old new : HostState D Parts) (run : Run) (this : Act) → IsAt view files old run → IsStill old new → IsAt view files new (changed files.size run this.does) → (changed files.size run this.does).log ≡ run.log → WereOffered files run (this ∷ []) → IsMade view files old new run this
   made_still old new run this at still there same offered = record {
     at = there;
     offered = offered;
@@ -112,7 +99,7 @@ module _ {D : Type 0} (view : D → View) (files : Files) where
   }
 
 -- a host that stays, and stays again
-pub still_more : {D M : Type 0} (old mid new : Seen D M) → IsStill old mid → IsStill mid new → IsStill old new
+pub still_more : {D M : Type 0} (old mid new : HostState D M) → IsStill old mid → IsStill mid new → IsStill old new
 still_more old mid new first more = record { disk = more.disk ∙ first.disk; parts = more.parts ∙ first.parts; size = more.size ∙ first.size; stopped = more.stopped ∙ first.stopped }
 
 -- ---- the batches that are left
@@ -122,7 +109,7 @@ abbrev pub left_in : ℕ → Option Session → ℕ
 left_in confirmed None = 0
 left_in confirmed (Some x) = length (after_event confirmed (chained x.acked_event x.batches))
 
-abbrev pub left_of : {M : Type 0} → ℕ → InCore M → ℕ
+abbrev pub left_of : {M : Type 0} → ℕ → CoreState M → ℕ
 left_of session core = left_in (confirmed_of session core.sessions) (session_at session core.sessions)
 
 fewer_above : (a b : ℕ) (bs : List Batch) → a ≤ b → length (after_event b bs) ≤ length (after_event a bs)
@@ -162,44 +149,29 @@ fewer_left_in confirmed None b is = absurd (cc is)
 fewer_left_in confirmed (Some x) b is = (fewer_behind confirmed (chained x.acked_event x.batches) b is).0
 
 -- the same of a host's core
-pub fewer_left : {M : Type 0} (session : ℕ) (old new : InCore M) (b : Batch) → batch_at session old.sessions ≡ Some b → new.sessions.sessions ≡ old.sessions.sessions → confirmed_of session new.sessions ≡ b.index → left_of session new < left_of session old
+pub fewer_left : {M : Type 0} (session : ℕ) (old new : CoreState M) (b : Batch) → batch_at session old.sessions ≡ Some b → new.sessions.sessions ≡ old.sessions.sessions → confirmed_of session new.sessions ≡ b.index → left_of session new < left_of session old
 fewer_left session old new b served same event =
     let less = fewer_left_in (confirmed_of session old.sessions) (session_at session old.sessions) b served in
     subst (λ (n : ℕ). n < left_of session old) (λ i. left_in (sym event i) (session_in session (sym same i))) less
 
--- ---- an acknowledgement
-
--- what is served is confirmed
-served_confirms : (event confirmed : ℕ) (found : Option Session) (b : Batch) → served_in confirmed found ≡ Some b → b.index ≡ event → confirms_in event confirmed found ≡ true
-served_confirms event confirmed None b served same = absurd (cc served)
-served_confirms event confirmed (Some x) b served same =
-    let there : option_map_or (λ b. b.index == event) (find (λ b. nat_lt confirmed b.index) (chained x.acked_event x.batches)) false ≡ true =
-    ap (λ (o : Option Batch). option_map_or (λ b. b.index == event) o false) served ∙ eq-eqb b.index event same in
-    elim (event == confirmed) as (λ q. (q || option_map_or (λ b. b.index == event) (find (λ b. nat_lt confirmed b.index) (chained x.acked_event x.batches)) false) ≡ true) [ true ↦ refl | false ↦ there ]
-
--- so it isn't refused
-pub acknowledged : (session event : ℕ) (t : Table) (why : AckError) → IsOpen session t → (b : Batch) → batch_at session t ≡ Some b → b.index ≡ event → IsAcknowledged session event t (Err why) → ⊥
-acknowledged session event t acks.NoSession there b served same is = let some = subst (λ (o : Option Session). IsTrue (is_some o)) is there in absurd (cc some)
-acknowledged session event t (acks.NotServed confirmed) there b served same is = cc (sym (served_confirms event (confirmed_of session t) (session_at session t) b served same) ∙ is.1)
-
 -- ---- a client, offered one batch after the other
 
 -- so much it knew and has confirmed, and the rest is left
-pub record Known {D : Type 0} (view : D → View) (files : Files) (session : ℕ) (now : Seen D Parts) (run : Run) (last : ℕ) : Type 0 where
+pub record Known {D : Type 0} (view : D → View) (files : Files) (session : ℕ) (now : HostState D Parts) (run : Run) (last : ℕ) : Type 0 where
   pub known : List ℕ
   pub none : session_of session (folded run.log) ≡ None → known ≡ []
   pub at : IsAt view files now (changed files.size run (Confirms session known None))
   pub goes_on : (x : Session) → session_of session (folded run.log) ≡ Some x
       → serve last (offers run session x) ≡ record { confirmed = known ++ (serve last (offers (changed files.size run (Confirms session known None)) session x)).confirmed; turn = (serve last (offers (changed files.size run (Confirms session known None)) session x)).turn }
 
-pub known_first : {D : Type 0} (view : D → View) (files : Files) (session : ℕ) (h : Seen D Parts) (run : Run) (last : ℕ) → IsAt view files h run → Known view files session h run last
+pub known_first : {D : Type 0} (view : D → View) (files : Files) (session : ℕ) (h : HostState D Parts) (run : Run) (last : ℕ) → IsAt view files h run → Known view files session h run last
 known_first view files session h run last at = record { known = []; none = λ _. refl; at = at_first view files h run session at; goes_on = λ x is. refl }
 
 is_there : {A : Type 0} (o : Option A) → IsTrue (is_some o) → (x : A) × (o ≡ Some x)
 is_there None some = absurd (cc some)
 is_there (Some x) some = (x, refl)
 
-module _ (law : HostsArePlain catalog_decision) (turns : ServesInTurn) {D : Type 0} (view : D → View) (files : Files) (session : ℕ) (now : Seen D Parts) (run : Run) (last : ℕ) (k : Known view files session now run last) where
+module _ (law : HostsArePlain catalog_decision) (turns : ServesInTurn) {D : Type 0} (view : D → View) (files : Files) (session : ℕ) (now : HostState D Parts) (run : Run) (last : ℕ) (k : Known view files session now run last) where
   abbrev here : Run
   here = changed files.size run (Confirms session k.known None)
 
@@ -249,7 +221,7 @@ module _ (law : HostsArePlain catalog_decision) (turns : ServesInTurn) {D : Type
           ∙ ap (λ (n : ℕ). record { confirmed = (k.known ++ b.index ∷ []) ++ (serve last (after_event n (chained x.acked_event x.batches))).confirmed; turn = (serve last (after_event n (chained x.acked_event x.batches))).turn }) (sym at_b)
 
   -- one more is known and confirmed
-  pub knows_one : (new : Seen D Parts) (b : Batch) → IsOpen session now.core.sessions → batch_at session now.core.sessions ≡ Some b → take_batch last b ≡ Repeated → IsStill now new → IsConfirmed session b.index now new → Known view files session new run last
+  pub knows_one : (new : HostState D Parts) (b : Batch) → IsOpen session now.core.sessions → batch_at session now.core.sessions ≡ Some b → take_batch last b ≡ Repeated → IsStill now new → IsConfirmed session b.index now new → Known view files session new run last
   knows_one new b opened served same still confirmed = record {
     known = k.known ++ b.index ∷ [];
     none = λ is. let some = subst (λ (o : Option Session). IsTrue (is_some o)) (found ∙ is) opened in absurd (cc some);
@@ -270,19 +242,19 @@ module _ (law : HostsArePlain catalog_decision) (turns : ServesInTurn) {D : Type
       (none, at_back view files now run session (subst (λ (events : List ℕ). IsAt view files now (changed files.size run (Confirms session events None))) (k.none none) k.at))
 
   -- what comes next
-  pub nothing_next : (old : Seen D Parts) (last' : ℕ) → IsOpen session now.core.sessions → batch_at session now.core.sessions ≡ None → HasNext view files session old now run last last' nexts.Nothing
+  pub nothing_next : (old : HostState D Parts) (last' : ℕ) → IsOpen session now.core.sessions → batch_at session now.core.sessions ≡ None → HasNext view files session old now run last last' nexts.Nothing
   nothing_next old last' opened none =
       let x = opened_at opened in
       record { opened = x.0; is_open = x.1; known = k.known; at = k.at; is = ends_here x.0 x.1 none }
 
-  pub taken_next : (old : Seen D Parts) (L last' : ℕ) (b : Batch) → L ≡ last → IsOpen session now.core.sessions → batch_at session now.core.sessions ≡ Some b → answered L (take_batch L b) ≡ says.Taken → last' ≡ last_after L b → HasNext view files session old now run last last' nexts.Taken
+  pub taken_next : (old : HostState D Parts) (L last' : ℕ) (b : Batch) → L ≡ last → IsOpen session now.core.sessions → batch_at session now.core.sessions ≡ Some b → answered L (take_batch L b) ≡ says.Taken → last' ≡ last_after L b → HasNext view files session old now run last last' nexts.Taken
   taken_next old L last' b same opened served said stands =
       let x = opened_at opened in
       let takes : take_batch last b ≡ Taken = subst (λ (n : ℕ). take_batch n b ≡ Taken) same (says_taken L (take_batch L b) said) in
       let both = takes_here x.0 x.1 b served takes in
       record { opened = x.0; is_open = x.1; known = k.known; at = k.at; is = (b, both.0, served, stands ∙ ap (λ (n : ℕ). last_after n b) same ∙ last_taken_is last b takes, takes, both.1) }
 
-  pub missed_next : (old : Seen D Parts) (L last' n : ℕ) (b : Batch) → L ≡ last → IsOpen session now.core.sessions → batch_at session now.core.sessions ≡ Some b → answered L (take_batch L b) ≡ says.Missed n → HasNext view files session old now run last last' (nexts.Missed n b.previous)
+  pub missed_next : (old : HostState D Parts) (L last' n : ℕ) (b : Batch) → L ≡ last → IsOpen session now.core.sessions → batch_at session now.core.sessions ≡ Some b → answered L (take_batch L b) ≡ says.Missed n → HasNext view files session old now run last last' (nexts.Missed n b.previous)
   missed_next old L last' n b same opened served said =
       let x = opened_at opened in
       let says = says_missed L n (take_batch L b) said in

@@ -1,14 +1,10 @@
 -- How acts follow one another, and how a run ends within one.
-use Rattle.std.proofs.Common.{◌≡◌, ◌⊎◌, inl, inr, ⊎_elim, ℕ, ◌≤◌, ◌<◌, Bool, true, false, List, [], ◌∷◌, ◌++◌, length, take, Option, Some, None, Result, Ok, Err, refl, ap, sym, ◌∙◌, subst, arith, append_assoc, length-append}
-use Rattle.std.proofs.lemmas.List.{append-nil, take_all}
+use Rattle.std.proofs.Common.{◌≡◌, inl, inr, ℕ, ◌<◌, true, List, [], ◌∷◌, ◌++◌, length, take, Option, Some, None, Result, Ok, Err, refl, ap, sym, ◌∙◌, subst, arith, append_assoc}
+use Rattle.std.proofs.lemmas.List.{append-nil}
 use Rattle.std.specs.Prelude.{OnOk}
-use Rattle.disk_model.specs.Image.{Image}
 use Rattle.disk_model.specs.View.{View, LeavesOnly}
 use Rattle.disk_model.proofs.Moments.{started, has_now}
-use Rattle.log_model.specs.plain.Admission.{Item}
-use Rattle.log_model.specs.cleaning.Layout.{alone}
-use Rattle.host_recovery.specs.Lying.{LiesAlone}
-use Rattle.host_recovery.specs.Seen.{Seen}
+use Rattle.host_recovery.specs.HostState.{HostState}
 use Rattle.resource_catalog.specs.Parts.{Parts}
 use Rattle.script_text.specs.declared.printed.Printed.{Printed}
 use Rattle.script_text.specs.Printing.{printed_text, printed_line}
@@ -17,11 +13,11 @@ use Rattle.copycat_tool.specs.declared.ending.Ending.TheVariants.{Done, Fault, T
 use Rattle.copycat_tool.specs.declared.lines.Command.{Command}
 use Rattle.copycat_tool.specs.Script.{command}
 use Rattle.copycat_tool.specs.Report.{Run, Act, Report, Change, Nothing, one, ends, in_front, answers_to, after, changed, printed, printed_lines}
-use Rattle.copycat_tool.specs.Runs.{Did, Files, HasPrefix, Ended, EndedSo, EndsAs, IsAnswered, IsInOrder, StandsEither, Wrote, is_by_call, reported}
-use Rattle.copycat_tool.specs.Standing.{IsAt, IsAtRest, IsCut, IsMade}
+use Rattle.copycat_tool.specs.Runs.{Did, Files, Ended, EndsAs, StandsEither, is_by_call}
+use Rattle.copycat_tool.specs.RunStanding.{IsAt, IsAtRest, IsCut, IsMade}
 use Rattle.copycat_tool.specs.Turning.{Answers, HasAnswered, HasEnded, HasEndedIn, HasRun, HasTurned, IsPut, Turns}
-use Rattle.copycat_tool.specs.Calls.{IsTold}
-use Rattle.copycat_tool.specs.Taking.{HasClients}
+use Rattle.copycat_tool.specs.HostCalls.{IsTold}
+use Rattle.copycat_tool.specs.ClientTakes.{HasClients}
 use Rattle.copycat_tool.specs.declared.clients.Clients.{Clients}
 use Rattle.copycat_tool.proofs.Offering.{none_offered, nothing_offered, offers_nothing}
 use Rattle.copycat_tool.proofs.Following.{did_more, follows_one}
@@ -61,7 +57,7 @@ module _ (files : Files) (run : Run) where
           follows = refl;
           since_then = cut.any_moment.each;
           at_exit = record {
-            logged = cut.logged;
+            log = cut.logged;
             each = λ image may. either_way files.name files.size run Nothing image (has_now v w _ cut.sound cut.any_moment image may);
             empty = cut.empty;
           };
@@ -99,7 +95,7 @@ module _ (files : Files) (run : Run) where
             follows = refl;
             since_then = cut.any_moment.each;
             at_exit = record {
-              logged = cut.logged;
+              log = cut.logged;
               each = λ image may. either_way files.name files.size run this.does image (has_now v w _ cut.sound cut.any_moment image may);
               empty = cut.empty;
             };
@@ -135,7 +131,7 @@ module _ (files : Files) (run : Run) where
 
 -- ---- a call on the host, and its line
 
-module _ {D : Type 0} (view : D → View) (files : Files) (old new : Seen D Parts) (run : Run) (this : Act) where
+module _ {D : Type 0} (view : D → View) (files : Files) (old new : HostState D Parts) (run : Run) (this : Act) where
   -- where nothing is changed, nothing was done
   pub made_nothing : IsAt view files old run → this.does ≡ Nothing → IsMade view files old old run this
   made_nothing at is =
@@ -177,25 +173,25 @@ module _ {D : Type 0} (view : D → View) (files : Files) (old new : Seen D Part
     put_told printed told (Err (Damaged base generation at)) put = absurd put
 
 -- the call failed
-pub call_cut : {D : Type 0} (view : D → View) (files : Files) (old new : Seen D Parts) (run : Run) (this : Act) (ending : Ending) (written : Option (List ℕ)) → IsCut files (view old.disk) (view new.disk) run this.does ending
+pub call_cut : {D : Type 0} (view : D → View) (files : Files) (old new : HostState D Parts) (run : Run) (this : Act) (ending : Ending) (written : Option (List ℕ)) → IsCut files (view old.disk) (view new.disk) run this.does ending
     → HasEnded files (this ∷ []) (view old.disk) (view new.disk) run written written ending
 call_cut view files old new run this ending written cut rest = record { text = []; wrote = wrote_none written; ended = cut_short files run this (view old.disk) (view new.disk) ending cut rest }
 
 -- no memory was left to look
-pub look_cut : {D : Type 0} (view : D → View) (files : Files) (h : Seen D Parts) (run : Run) (this : Act) (ending : Ending) (written : Option (List ℕ)) → IsAt view files h run → ending ≡ NoMemory
+pub look_cut : {D : Type 0} (view : D → View) (files : Files) (h : HostState D Parts) (run : Run) (this : Act) (ending : Ending) (written : Option (List ℕ)) → IsAt view files h run → ending ≡ NoMemory
     → HasEnded files (this ∷ []) (view h.disk) (view h.disk) run written written ending
 look_cut view files h run this ending written at is = subst (HasEnded files (this ∷ []) (view h.disk) (view h.disk) run written written) (sym is)
     (λ rest. record { text = []; wrote = wrote_none written; ended = stays files run (in_front (this ∷ []) rest) (view h.disk) NoMemory at.rest (inl refl) (λ no. absurd (cc no)) })
 
 -- what is told by an act that only looks
-pub looked : {D : Type 0} (view : D → View) (files : Files) (h : Seen D Parts) (run : Run) (this : Act) → IsAt view files h run → this.does ≡ Nothing → (printed : Printed) → this.lines ≡ printed_text printed ∷ []
+pub looked : {D : Type 0} (view : D → View) (files : Files) (h : HostState D Parts) (run : Run) (this : Act) → IsAt view files h run → this.does ≡ Nothing → (printed : Printed) → this.lines ≡ printed_text printed ∷ []
     → IsTold view files h h run this printed
 looked view files h run this at does printed line = record { line_is = line; made = made_nothing view files h h run this at does }
 
 -- ---- some acts, and then others
 
-module _ {D : Type 0} (view : D → View) (files : Files) (done : List Act) (old mid : Seen D Parts) (run : Run) (written written' : Option (List ℕ)) (a : HasAnswered view files done old mid run written written') where
-  pub then_answered : (more : List Act) (new : Seen D Parts) (written'' : Option (List ℕ)) → HasAnswered view files more mid new (after files.size run done) written' written'' → HasAnswered view files (done ++ more) old new run written written''
+module _ {D : Type 0} (view : D → View) (files : Files) (done : List Act) (old mid : HostState D Parts) (run : Run) (written written' : Option (List ℕ)) (a : HasAnswered view files done old mid run written written') where
+  pub then_answered : (more : List Act) (new : HostState D Parts) (written'' : Option (List ℕ)) → HasAnswered view files more mid new (after files.size run done) written' written'' → HasAnswered view files (done ++ more) old new run written written''
   then_answered more new written'' b = record {
     at = subst (IsAt view files new) (after-append files.size run done more) b.at;
     did = did_more files (view old.disk) (view mid.disk) (view new.disk) run done more a.did b.did;
@@ -216,7 +212,7 @@ module _ {D : Type 0} (view : D → View) (files : Files) (done : List Act) (old
       (then_run (in_front more rest) new ending written'' (e rest))
 
 -- no acts at all
-pub nothing_answered : {D : Type 0} (view : D → View) (files : Files) (h : Seen D Parts) (run : Run) (written : Option (List ℕ)) → IsAt view files h run → HasAnswered view files [] h h run written written
+pub nothing_answered : {D : Type 0} (view : D → View) (files : Files) (h : HostState D Parts) (run : Run) (written : Option (List ℕ)) → IsAt view files h run → HasAnswered view files [] h h run written written
 nothing_answered view files h run written at = record { at = at; did = did_nothing files run (view h.disk) at.rest; wrote = wrote_none written }
 
 -- ---- a line
@@ -240,7 +236,7 @@ module _ (files : Files) (line : List ℕ) (run : Run) (number : ℕ) (v : View)
   }
 
 -- it is a command, which was answered, or within which the run ended
-pub line_turned : {D : Type 0} (view : D → View) (files : Files) (line : List ℕ) (number : ℕ) (asked : Command) (old new : Seen D Parts) (run : Run) (written written' : Option (List ℕ)) (clients : Clients) → Some asked ≡ command line
+pub line_turned : {D : Type 0} (view : D → View) (files : Files) (line : List ℕ) (number : ℕ) (asked : Command) (old new : HostState D Parts) (run : Run) (written written' : Option (List ℕ)) (clients : Clients) → Some asked ≡ command line
     → {T : Type 0} (r : Result T Ending) → Answers view files (answers_to files.size run asked) old new run written written' r → OnOk r (HasClients (after files.size run (answers_to files.size run asked)) clients)
     → Turns view files line number old new run written written' clients r
 line_turned view files line number asked old new run written written' clients is (Ok x) a are = record {
@@ -253,7 +249,7 @@ line_turned view files line number asked old new run written written' clients is
     subst (λ (t : Option Command). HasRun files (one files.size t run number rest) (view old.disk) (view new.disk) run written written' ending) is (e (rest (after files.size run (answers_to files.size run asked))))
 
 -- the last line was answered
-pub answered_all : {D : Type 0} (view : D → View) (files : Files) (line : List ℕ) (number : ℕ) (old new : Seen D Parts) (run : Run) (written written' : Option (List ℕ)) (clients : Clients) → HasTurned view files line old new run written written' clients
+pub answered_all : {D : Type 0} (view : D → View) (files : Files) (line : List ℕ) (number : ℕ) (old new : HostState D Parts) (run : Run) (written written' : Option (List ℕ)) (clients : Clients) → HasTurned view files line old new run written written' clients
     → HasRun files (one files.size (command line) run number (λ _. ends Done)) (view old.disk) (view new.disk) run written written' Done
 answered_all view files line number old new run written written' clients t =
     let w = view new.disk in

@@ -1,6 +1,5 @@
 -- How the program ends: with a log that was opened and run, or with one that couldn't be opened.
 use Rattle.std.specs.Prelude.{◌≡◌, ◌≤◌, ◌⊎◌, ℕ, List, [], ◌∷◌, ◌++◌, length, take, Option, Some, codes}
-use Rattle.disk_model.specs.declared.file_id.FileId.{FileId}
 use Rattle.disk_model.specs.Image.{Image}
 use Rattle.disk_model.specs.View.{View, LeavesAt, LeavesOnly, MayHold}
 use Rattle.segment_files.specs.Folder.{folder, IsFault}
@@ -11,9 +10,9 @@ use Rattle.host_recovery.specs.Lying.{Lies}
 use Rattle.segment_set.specs.Opening.{id_from}
 use Rattle.copycat_tool.specs.declared.ending.Ending.{Ending}
 use Rattle.copycat_tool.specs.declared.ending.Ending.TheVariants.{DiskFault, Damaged, NoMemory}
-use Rattle.copycat_tool.specs.Logs.{StandsFor}
+use Rattle.host_recovery.specs.Logs.{HasPrefix, IsInOrder, StandsFor, plain_form}
 use Rattle.copycat_tool.specs.Report.{Run}
-use Rattle.copycat_tool.specs.Runs.{BeginsAcked, BeginsAtPoints, ClosesAs, Files, HasPrefix, IsInOrder, RanSo, Wrote}
+use Rattle.copycat_tool.specs.Runs.{BeginsAcked, BeginsAtPoints, ClosesAs, Files, RanSo, Wrote}
 
 abbrev pub usage_line : List ℕ
 usage_line = codes "usage: copycat run NAME [--segment N], census NAME, follow LEADER NAME, make NAME SEED COUNT" ++ 10 ∷ []
@@ -28,7 +27,7 @@ pub record OpensAndRuns (files : Files) (log : List Item) (least : ℕ) (script 
   pub enough : least ≤ count
   pub within : count ≤ length log
   pub log_is : run.log ≡ take count log
-  pub read : StandsFor files.name old.reading run.log
+  pub read : StandsFor plain_form files.name old.reading run.log
   pub lies : Lies files.name old.reading run.layout
   -- each session has confirmed, and each client has, what the session acknowledged
   pub confirmed : run.confirmed ≡ acked_positions (folded run.log).sessions
@@ -36,7 +35,7 @@ pub record OpensAndRuns (files : Files) (log : List Item) (least : ℕ) (script 
   pub points : BeginsAtPoints run
   pub opened : ℕ
   pub later : old.moment ≤ opened
-  pub before : (image : Image) → new.left_since old.moment image → HasPrefix files.name log least image ⊎ new.left_since opened image
+  pub before : (image : Image) → new.left_since old.moment image → HasPrefix plain_form files.name log least image ⊎ new.left_since opened image
   pub ran : RanSo files run script left opened new text status read_failed disk_failed
 
 -- why a log couldn't be opened: its disk failed, no memory was left, or a file isn't right, which is named with the place
@@ -56,8 +55,8 @@ pub record StaysUnopened (name : List ℕ) (script left : Option (List ℕ)) (ol
 -- It is still in order, whatever a crash leaves.
 pub record StaysInOrder (files : Files) (log : List Item) (least : ℕ) (script : List ℕ) (left : Option (List ℕ)) (old new : View) (text : List ℕ) (status : ℕ) (disk_failed : Type 0) : Type 0 where
   pub unopened : StaysUnopened files.name (Some script) left old text status disk_failed
-  pub any_moment : LeavesOnly old new (HasPrefix files.name log least)
-  pub at_exit : IsInOrder files.name new log least
+  pub any_moment : LeavesOnly old new (HasPrefix plain_form files.name log least)
+  pub at_exit : IsInOrder plain_form new files.name log least
 
 -- the one or the other, with what was written
 pub record RunsInOrder (files : Files) (log : List Item) (least : ℕ) (script : List ℕ) (left : Option (List ℕ)) (old new : View) (written written' : Option (List ℕ)) (status : ℕ) (read_failed disk_failed : Type 0) : Type 0 where

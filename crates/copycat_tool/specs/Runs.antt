@@ -1,8 +1,7 @@
 -- How a run over a script goes and ends: what it wrote, and what the disk may stand for meanwhile and then.
-use Rattle.std.specs.Prelude.{◌≡◌, ◌<◌, ◌≤◌, ◌⊎◌, ℕ, ◌+◌, ◌-◌, Bool, true, false, cond, ◌==◌, if◌then◌else◌, IsTrue, List, [], ◌∷◌, ◌++◌, length, take, drop, Option, Some, None}
+use Rattle.std.specs.Prelude.{◌≡◌, ◌<◌, ◌≤◌, ◌⊎◌, ℕ, ◌+◌, ◌-◌, Bool, true, false, cond, ◌==◌, IsTrue, List, [], ◌∷◌, ◌++◌, length, take, drop, Option, Some, None}
 use Rattle.disk_model.specs.Image.{Image}
-use Rattle.disk_model.specs.View.{View, MayLeave, GoesOn}
-use Rattle.segment_set.specs.Fits.{IsEmptyWhereNone}
+use Rattle.disk_model.specs.View.{View, GoesOn}
 use Rattle.log_model.specs.plain.Admission.{Item}
 use Rattle.log_model.specs.cleaning.Layout.{alone}
 use Rattle.log_model.specs.plain.Step.{folded}
@@ -13,8 +12,8 @@ use Rattle.host_recovery.specs.Lying.{LiesAlone}
 use Rattle.copycat_tool.specs.declared.ending.Ending.{Ending}
 use Rattle.copycat_tool.specs.declared.ending.Ending.TheVariants.{Done, Fault, TooLong, ReadFault, WriteFault, DiskFault, NoMemory, Damaged}
 use Rattle.copycat_tool.specs.Script.{script_limit, command}
-use Rattle.copycat_tool.specs.Logs.{IsLog, StandsFor}
-use Rattle.copycat_tool.specs.Report.{Run, Act, Change, Confirms, Cut, client_at, one, changed, printed, printed_lines, after, Report, Broken, report, cut_of, in_front, opening, last_line, status_of}
+use Rattle.host_recovery.specs.Logs.{IsInOrder, StandsFor, plain_form}
+use Rattle.copycat_tool.specs.Report.{Run, Act, Change, Confirms, client_at, one, changed, printed, printed_lines, after, Report, Broken, report, cut_of, in_front, opening, last_line, status_of}
 
 -- the name of a log's files, and the size of a new one
 pub record Files : Type 0 where
@@ -23,30 +22,16 @@ pub record Files : Type 0 where
 
 -- WHICH LOGS THE IMAGES STAND FOR
 
--- it stands for a prefix of the log, with at least so many items
-pub record HasPrefix (name : List ℕ) (log : List Item) (least : ℕ) (image : Image) : Type 0 where
+-- A folder is in order for a prefix of the log with at least so many items, all of it.
+pub record IsInOrderFor (v : View) (name : List ℕ) (log : List Item) (least : ℕ) : Type 0 where
   pub count : ℕ
   pub enough : least ≤ count
   pub within : count ≤ length log
-  pub is : StandsFor name image (take count log)
-
--- A folder is in order for a log, from so many items on: whatever a crash leaves now stands for a prefix of it with at least so
--- many, and where no file of the name is listed no crash brings one back with entries.
-pub record IsInOrder (name : List ℕ) (v : View) (log : List Item) (least : ℕ) : Type 0 where
-  pub logged : IsLog log
-  pub each : (image : Image) → MayLeave v image → HasPrefix name log least image
-  pub empty : IsEmptyWhereNone v name
-
--- It is in order for a prefix of the log with at least so many items, all of it.
-pub record IsInOrderFor (name : List ℕ) (v : View) (log : List Item) (least : ℕ) : Type 0 where
-  pub count : ℕ
-  pub enough : least ≤ count
-  pub within : count ≤ length log
-  pub in_order : IsInOrder name v (take count log) count
+  pub in_order : IsInOrder plain_form v name (take count log) count
 
 -- it stands for the one log or for the other
 abbrev pub StandsEither : List ℕ → List Item → List Item → Image → Type 0
-StandsEither name log log' image = StandsFor name image log ⊎ StandsFor name image log'
+StandsEither name log log' image = StandsFor plain_form name image log ⊎ StandsFor plain_form name image log'
 
 -- Since a moment a crash leaves the log or the log after a change, until another moment: what is left since then is told elsewhere.
 pub record IsDone (name : List ℕ) (v : View) (log log' : List Item) (since until : ℕ) : Type 0 where
@@ -159,7 +144,7 @@ pub record EndedSo (files : Files) (run : Run) (told : Report) (since : ℕ) (ne
   pub follows : Follows files new run (take sure told.acts) since until
   pub since_then : (image : Image) → new.left_since until image → StandsEither files.name (log_at files run told sure) (log_at files run told stored) image
   -- so the folder is in order
-  pub at_exit : IsInOrder files.name new (log_at files run told stored) (length (log_at files run told sure))
+  pub at_exit : IsInOrder plain_form new files.name (log_at files run told stored) (length (log_at files run told sure))
   -- where nothing failed the files lie as the report says, with no others beside them
   pub layout : is_by_call ending ≡ false → LiesAlone files.name new.reading (alone (after files.size run told.acts).layout)
 

@@ -1,11 +1,11 @@
 // The lines of a script, one after the other.
 ghost use Rattle.std.specs.Prelude.{◌≡◌, ◌≤◌, ℕ, List, Some, Err, IsTrue, Result, false};
 ghost use Rattle.script_io.specs.Streams.{Rose};
-ghost use Rattle.copycat_tool.specs.Reading.{IsFrontOf};
+ghost use Rattle.copycat_tool.specs.Pieces.{IsFrontOf};
 ghost use Rattle.copycat_tool.specs.Report.{Run, Whole, last_piece};
 ghost use Rattle.copycat_tool.specs.Runs.{BeginsAcked, Files, all_reported, reported};
-ghost use Rattle.copycat_tool.specs.Standing.{IsAt};
-ghost use Rattle.copycat_tool.specs.Taking.{HasClients};
+ghost use Rattle.copycat_tool.specs.RunStanding.{IsAt};
+ghost use Rattle.copycat_tool.specs.ClientTakes.{HasClients};
 ghost use Rattle.copycat_tool.specs.Turning.{HasRun, KeepsRun, ended_by};
 
 use crate::clients::Clients;

@@ -4,9 +4,9 @@ ghost use Rattle.host_types.specs.Decision.{is_looking};
 ghost use Rattle.script_text.specs.Printing.{HasRange, printed_text};
 ghost use Rattle.copycat_tool.specs.Report.{Run, Nothing, Reopens, Stores, admission, answer_by, expiry, look_answer, quiet_answer, reopening};
 ghost use Rattle.copycat_tool.specs.Runs.{Files};
-ghost use Rattle.copycat_tool.specs.Standing.{IsAt, IsCut};
+ghost use Rattle.copycat_tool.specs.RunStanding.{IsAt, IsCut};
 ghost use Rattle.copycat_tool.specs.Turning.{KeepsRun};
-ghost use Rattle.copycat_tool.specs.Calls.{HasFewer, IsExpiring, IsTold, change_of, error_told, expiry_told, offer_told, printed_of};
+ghost use Rattle.copycat_tool.specs.HostCalls.{HasFewer, IsExpiring, IsTold, change_of, error_told, expiry_told, offer_told, printed_of};
 
 use crate::ending::Ending;
 use disk_model::Disk;

@@ -1,7 +1,7 @@
 // The clients of a run, one for each session.
 ghost use Rattle.std.specs.Prelude.{◌≡◌, ℕ, IfOk, OnOk, OnErr};
 ghost use Rattle.log_model.specs.serving.Positions.{acked_positions, event_at};
-ghost use Rattle.copycat_tool.specs.Taking.{Keeps, client_of};
+ghost use Rattle.copycat_tool.specs.ClientTakes.{Keeps, client_of};
 
 use disk_model::Disk;
 use event_batches::Client;

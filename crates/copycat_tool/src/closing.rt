@@ -3,10 +3,10 @@ ghost use Rattle.std.specs.Prelude.{◌≡◌, ◌<◌, ◌≤◌, ◌⊎◌, �
 ghost use Rattle.script_io.specs.Streams.{Rose};
 ghost use Rattle.segment_set.specs.Fits.{KeepsNames};
 ghost use Rattle.copycat_tool.specs.Closing.{EndsRun, HasCauses, HasClosed};
-ghost use Rattle.copycat_tool.specs.Reading.{IsFrontOf};
+ghost use Rattle.copycat_tool.specs.Pieces.{IsFrontOf};
 ghost use Rattle.copycat_tool.specs.Report.{Run};
 ghost use Rattle.copycat_tool.specs.Runs.{BeginsAcked, Closes, Files, Wrote};
-ghost use Rattle.copycat_tool.specs.Standing.{IsAt};
+ghost use Rattle.copycat_tool.specs.RunStanding.{IsAt};
 
 use crate::answers::answer_script;
 use crate::ending::Ending;

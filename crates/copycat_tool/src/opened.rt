@@ -1,7 +1,7 @@
 // A log that is opened over the catalog, in the words of the plain state.
-ghost use Rattle.std.specs.Prelude.{◌≡◌, ◌≤◌, ℕ, List, IsTrue, IfOk};
+ghost use Rattle.std.specs.Prelude.{◌≤◌, ℕ, List, IsTrue, IfOk};
 ghost use Rattle.log_model.specs.plain.Admission.{Item};
-ghost use Rattle.copycat_tool.specs.Runs.{IsInOrder};
+ghost use Rattle.host_recovery.specs.Logs.{IsInOrder, plain_form};
 ghost use Rattle.copycat_tool.specs.Opened.{OpensPlain};
 
 use disk_model::Disk;
@@ -23,7 +23,7 @@ pub fn open_log<D: Disk>(
 ) -> Result<Host<D, Catalog>, (D, OpenError)>
     requires least { 2 ≤ segment }
     requires most { segment ≤ 65536 }
-    ensures { IsTrue D.tells → (log : List Item) (least : ℕ) → IsInOrder name.now (D.view disk) log least → IfOk result (OpensPlain D.view name.now (D.view disk) log least) }
+    ensures { IsTrue D.tells → (log : List Item) (least : ℕ) → IsInOrder plain_form (D.view disk) name.now log least → IfOk result (OpensPlain D.view name.now (D.view disk) log least) }
 {
     catalog_is_plain();
     plain_machines_are_plain();

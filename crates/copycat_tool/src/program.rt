@@ -1,14 +1,15 @@
 // The program: its words, the log that they name, and the script.
-ghost use Rattle.std.specs.Prelude.{◌≡◌, ◌<◌, ◌≤◌, ◌++◌, ◌⊎◌, ℕ, List, None, Some, IsTrue, map};
+ghost use Rattle.std.specs.Prelude.{◌≡◌, ◌<◌, ◌≤◌, ℕ, List, None, Some, IsTrue, map};
 ghost use Rattle.script_io.specs.Streams.{Rose};
 ghost use Rattle.disk_model.specs.declared.file_id.FileId.{FileId};
 ghost use Rattle.segment_files.specs.Folder.{folder, IsFault};
 ghost use Rattle.segment_set.specs.Fits.{KeepsNames};
 ghost use Rattle.log_model.specs.plain.Admission.{Item};
 ghost use Rattle.copycat_tool.specs.Closing.{HasCauses};
-ghost use Rattle.copycat_tool.specs.Reading.{IsFrontOf};
+ghost use Rattle.copycat_tool.specs.Pieces.{IsFrontOf};
 ghost use Rattle.copycat_tool.specs.Words.{asks, asked_of};
-ghost use Rattle.copycat_tool.specs.Runs.{Closes, IsInOrder, Wrote};
+ghost use Rattle.host_recovery.specs.Logs.{IsInOrder, plain_form};
+ghost use Rattle.copycat_tool.specs.Runs.{Closes, Wrote};
 ghost use Rattle.copycat_tool.specs.Programs.{IsStatus, RunsInOrder, StaysDamaged, usage_line};
 
 use crate::closing::{Status, close_run, put_last, run_script};
@@ -33,7 +34,7 @@ fn run_log<I: Source, D: Disk, O: Sink>(
 ) -> (Status, D)
     requires least { 2 ≤ size }
     requires most { size ≤ 65536 }
-    ensures ran { IsTrue D.tells → (log : List Item) (least : ℕ) → IsInOrder name.now (D.view disk) log least → (bytes : List ℕ) → I.left script.old ≡ Some bytes
+    ensures ran { IsTrue D.tells → (log : List Item) (least : ℕ) → IsInOrder plain_form (D.view disk) name.now log least → (bytes : List ℕ) → I.left script.old ≡ Some bytes
         → RunsInOrder (record { name = name.now; size = size }) log least bytes (I.left script.new) (D.view disk) (D.view result.1) (O.written out.old) (O.written out.new) result.0.0
         (Rose (I.faults script.old) (I.faults script.new)) (D.faults disk < D.faults result.1) }
     ensures faulty { IsTrue D.tells → (id : FileId) (at : ℕ) → IsFault (folder name.now (D.view disk).reading) id at
@@ -72,7 +73,7 @@ pub fn run<I: Source, D: Disk, O: Sink>(
     // A folder that is in order for a log, whatever a crash leaves of it: what is printed, what the files stand for while it runs, and
     // for which log the folder is in order then.
     ensures ran { IsTrue D.tells → (name : List ℕ) (size : ℕ) → asked_of (map (λ w. w.items) words.now) ≡ Some (asks name size)
-        → (log : List Item) (least : ℕ) → IsInOrder name (D.view disk) log least → (bytes : List ℕ) → I.left script.old ≡ Some bytes
+        → (log : List Item) (least : ℕ) → IsInOrder plain_form (D.view disk) name log least → (bytes : List ℕ) → I.left script.old ≡ Some bytes
         → RunsInOrder (record { name = name; size = size }) log least bytes (I.left script.new) (D.view disk) (D.view result.1) (O.written out.old) (O.written out.new) result.0.0
         (Rose (I.faults script.old) (I.faults script.new)) (D.faults disk < D.faults result.1) }
 

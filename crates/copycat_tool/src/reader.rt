@@ -3,7 +3,7 @@
 ghost use Rattle.std.specs.Prelude.{◌≡◌, ◌<◌, ◌≤◌, ◌⊎◌, ◌+◌, ◌++◌, ℕ, List, [], Some, Ok, Err, false, length, take, drop, vec_len, MatchOption, IfSome, IfNone, IfOk, OnOk, IsErrOf};
 ghost use Rattle.script_io.specs.Streams.{Rose};
 ghost use Rattle.copycat_tool.specs.Script.{has_feed};
-ghost use Rattle.copycat_tool.specs.Reading.{EndsAt, Finds, IsLineWithin, IsPiece, IsShort, IsTaken, TakesMore};
+ghost use Rattle.copycat_tool.specs.Pieces.{EndsAt, Finds, IsLineWithin, IsPiece, IsShort, IsTaken, TakesMore};
 ghost use Rattle.copycat_tool.specs.declared.reader.ReadError.TheVariants.{Failed, NoMemory};
 
 use crate::held::Held;

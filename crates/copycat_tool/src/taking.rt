@@ -6,8 +6,8 @@ ghost use Rattle.session_table.specs.Asked.{batch_at};
 ghost use Rattle.session_table.specs.Table.{IsOpen};
 ghost use Rattle.copycat_tool.specs.Report.{Run, after, take_answer};
 ghost use Rattle.copycat_tool.specs.Runs.{Files};
-ghost use Rattle.copycat_tool.specs.Standing.{IsAt};
-ghost use Rattle.copycat_tool.specs.Taking.{ArePut, Comes, HasClients, HasTaken, IsConfirmed, IsStill, Keeps, event_lines};
+ghost use Rattle.copycat_tool.specs.RunStanding.{IsAt};
+ghost use Rattle.copycat_tool.specs.ClientTakes.{ArePut, Comes, HasClients, HasTaken, IsConfirmed, IsStill, Keeps, event_lines};
 ghost use Rattle.copycat_tool.specs.Turning.{Answers, KeepsRun};
 
 use crate::clients::Clients;

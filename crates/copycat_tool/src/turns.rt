@@ -4,8 +4,8 @@ ghost use Rattle.host_types.specs.Decision.{is_looking};
 ghost use Rattle.copycat_tool.specs.Script.{IsFit};
 ghost use Rattle.copycat_tool.specs.Report.{Run, admission, after, answer_by, answers_to, look_answer, offered, reopening};
 ghost use Rattle.copycat_tool.specs.Runs.{Files};
-ghost use Rattle.copycat_tool.specs.Standing.{IsAt};
-ghost use Rattle.copycat_tool.specs.Taking.{HasClients};
+ghost use Rattle.copycat_tool.specs.RunStanding.{IsAt};
+ghost use Rattle.copycat_tool.specs.ClientTakes.{HasClients};
 ghost use Rattle.copycat_tool.specs.Turning.{Answers, Expires_all, KeepsRun, Turns};
 
 use crate::calls::{Expiring, expire_next, look, make_offer, quiet_of, reopen};
@@ -66,7 +66,7 @@ fn answer_offer<D: Disk, O: Sink>(
     ensures keeps { KeepsRun D.tells D.view D.faults host.old host.new (O.faults out.old) (O.faults out.new) ⊥ result }
 {
     match make_offer(alloc, one, host) {
-        Ok(answer) => put_answer(answer, text, out),
+        Ok(told) => put_answer(told, text, out),
         Err(ending) => Err(ending),
     }
 }

@@ -8,17 +8,9 @@ use Rattle.host_types.specs.declared.entry.Reply.{Reply}
 use Rattle.log_model.specs.plain.Plain.{Session}
 use Rattle.log_model.specs.plain.Step.{changed, events_of, new_session}
 use Rattle.log_model.specs.replay.Replay.{noted, pushed, replay_alive, replay_batches, replay_reply, replay_sessions, trimmed}
-use Rattle.log_model.specs.serving.Positions.{Position, acked_positions, moved_to, position_changed, with_alive, with_new, without_position}
-use Rattle.session_table.specs.Table.{Beside, ConfirmsAcked, Table, beside_alive, beside_changed, confirmed_positions}
-use Rattle.host_core.specs.Entering.{beside_after}
-
--- what an entry with this body makes of such positions
-abbrev pub entered : ℕ → Body → List Position → List Position
-entered i (Register timeout) ps = with_new i ps
-entered i (Alive session seq event) ps = with_alive session event ps
-entered i (Close session expired) ps = without_position session ps
-entered i Tick ps = ps
-entered i (Command session seq effect reply) ps = ps
+use Rattle.log_model.specs.serving.Positions.{Position, acked_positions, moved_to, position_changed, with_alive, without_position}
+use Rattle.session_table.specs.Table.{Beside, ConfirmsAcked, Table, beside_alive, beside_changed, beside_confirmed, confirmed_positions}
+use Rattle.host_core.specs.Entering.{beside_after, confirmed_by}
 
 -- ---- what was confirmed
 
@@ -37,6 +29,19 @@ confirmed_alive i id event (b ∷ bs) = λ j. one (b.id == id) j ∷ confirmed_a
     one true = refl
     one false = refl
 
+confirmed_moved : (id event : ℕ) (bs : List Beside) → confirmed_positions (beside_changed id (beside_confirmed event) bs) ≡ position_changed id (moved_to event) (confirmed_positions bs)
+confirmed_moved id event [] = refl
+confirmed_moved id event (b ∷ bs) = λ j. one (b.id == id) j ∷ confirmed_moved id event bs j
+  where
+    one : (q : Bool) → confirmed_at (cond q (beside_confirmed event b) b) ≡ cond q (moved_to event (confirmed_at b)) (confirmed_at b)
+    one true = refl
+    one false = refl
+
+-- where an event was confirmed or not
+pub confirmed_if : (q : Bool) (id event : ℕ) (bs : List Beside) → confirmed_positions (cond q (beside_changed id (beside_confirmed event) bs) bs) ≡ cond q (position_changed id (moved_to event) (confirmed_positions bs)) (confirmed_positions bs)
+confirmed_if true id event bs = confirmed_moved id event bs
+confirmed_if false id event bs = refl
+
 confirmed_without : (id : ℕ) (bs : List Beside) → confirmed_positions (filter (λ b. not (b.id == id)) bs) ≡ without_position id (confirmed_positions bs)
 confirmed_without id [] = refl
 confirmed_without id (b ∷ bs) =
@@ -45,7 +50,7 @@ confirmed_without id (b ∷ bs) =
       | false ↦ ap (λ (ps : List Position). confirmed_at b ∷ ps) (confirmed_without id bs)
     ]
 
-pub confirmed_entered : (i : ℕ) (body : Body) (bs : List Beside) → confirmed_positions (beside_after i body bs) ≡ entered i body (confirmed_positions bs)
+pub confirmed_entered : (i : ℕ) (body : Body) (bs : List Beside) → confirmed_positions (beside_after i body bs) ≡ confirmed_by i body (confirmed_positions bs)
 confirmed_entered i (Register timeout) bs = confirmed_more bs _
 confirmed_entered i (Alive session seq event) bs = confirmed_alive i session event bs
 confirmed_entered i (Close session expired) bs = confirmed_without session bs
@@ -104,7 +109,7 @@ acked_reply cut seq i id reply (x ∷ xs) =
     let one : acked (cond (x.id == id) (replay_reply cut seq i reply x) x) ≡ acked x = elim (x.id == id) as (λ q. acked (cond q (replay_reply cut seq i reply x) x) ≡ acked x) [ true ↦ kept | false ↦ refl ] in
     λ j. one j ∷ acked_reply cut seq i id reply xs j
 
-acked_entered : (cut i time : ℕ) (told : List (ℕ × Event)) (body : Body) (xs : List Session) → acked_positions (replay_sessions cut i time told body xs) ≡ entered i body (acked_positions xs)
+acked_entered : (cut i time : ℕ) (told : List (ℕ × Event)) (body : Body) (xs : List Session) → acked_positions (replay_sessions cut i time told body xs) ≡ confirmed_by i body (acked_positions xs)
 acked_entered cut i time told (Register timeout) xs = acked_more xs (new_session i time timeout)
 acked_entered cut i time told (Alive session seq event) xs = acked_alive time session seq event xs
 acked_entered cut i time told (Close session expired) xs = acked_batches cut i told (filter (λ x. not (x.id == session)) xs) ∙ acked_without session xs
@@ -114,10 +119,9 @@ acked_entered cut i time told (Command session seq effect reply) xs = acked_repl
 -- ---- both
 
 -- where no more was confirmed than was acknowledged, so it is after an entry
-pub confirms_still : (cut i time : ℕ) (told : List (ℕ × Event)) (body : Body) (old new : Table) → new.beside ≡ beside_after i body old.beside → new.sessions ≡ replay_sessions cut i time told body old.sessions → ConfirmsAcked old → ConfirmsAcked new
-confirms_still cut i time told body old new beside sessions is =
-    ap confirmed_positions beside
-    ∙ confirmed_entered i body old.beside
-    ∙ ap (λ (ps : List Position). entered i body ps) is
+pub confirms_still : (cut i time : ℕ) (told : List (ℕ × Event)) (body : Body) (old new : Table) → confirmed_positions new.beside ≡ confirmed_by i body (confirmed_positions old.beside) → new.sessions ≡ replay_sessions cut i time told body old.sessions → ConfirmsAcked old → ConfirmsAcked new
+confirms_still cut i time told body old new positions sessions is =
+    positions
+    ∙ ap (λ (ps : List Position). confirmed_by i body ps) is
     ∙ sym (acked_entered cut i time told body old.sessions)
     ∙ ap acked_positions (sym sessions)

@@ -38,8 +38,8 @@ use Rattle.log_model.proofs.hosted.Sounds.{entry_sound}
 use Rattle.session_table.specs.Table.{Table}
 use Rattle.session_table.specs.Places.{table_cells}
 use Rattle.host_core.specs.Entering.{Entered, Meets}
-use Rattle.host_core.specs.Parts.{sessions_after}
-use Rattle.host_core.specs.Seen.{Seen, IsKept, hosted}
+use Rattle.host_core.specs.CoreParts.{sessions_after}
+use Rattle.host_core.specs.CoreState.{CoreState, IsKept, hosted}
 use Rattle.host_core.proofs.Parts.{parts_follow, session_part}
 use Rattle.host_core.proofs.Standing.{places-append, parts_apart, out_after}
 
@@ -59,7 +59,7 @@ found_has f last (y ∷ ss) a x e =
       | false ↦ λ e. found_has f last ss a.1 x e
     ] e
 
-module _ {M : Type 0} (cells : M → Cells) (d : MachineDecision) (s : Seen M) (k : IsKept cells s) where
+module _ {M : Type 0} (cells : M → Cells) (d : MachineDecision) (s : CoreState M) (k : IsKept cells s) where
   -- nothing of the next index is out
   pub absent : (index : ℕ) → s.last < index → tokens s.lender index ≡ 0
   absent index behind = k.out index ∙ (index_free (hosted cells s) index k.sound behind).unheld
@@ -136,7 +136,7 @@ module _ {M : Type 0} (cells : M → Cells) (d : MachineDecision) (s : Seen M) (
 
   module _ (index cut : ℕ) (e : Entry) (behind : s.last < index) (fits : EntryFits e) (range : IsInRange index e) (machine : M) (table : Table) (lent lent' lent'' : Lent)
       (lends : (j : ℕ) → tokens lent j ≡ tokens s.lender j + one_of index j) (entered : Entered index e cut (told_by d (cells s.machine) index e.body) (cells s.machine) (cells machine) s.sessions table lent lent') (out : lent''.out ≡ lent'.out) (closed : lent''.closed ≡ []) where
-    abbrev s' : Seen M
+    abbrev s' : CoreState M
     s' = record { machine = machine; sessions = table; lender = lent''; last = index; time = e.time }
 
     cells_are : after (hosted cells s).cells index e ≡ cells machine ++ table_cells table

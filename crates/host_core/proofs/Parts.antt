@@ -17,7 +17,7 @@ use Rattle.host_types.proofs.Places.{place_total, exact_places}
 use Rattle.log_model.proofs.Lookups.{T_from}
 use Rattle.log_model.proofs.cleaning.Changes.{or_else, at-put_all, at-uncovered, sorted-after}
 use Rattle.log_model.proofs.hosted.Parts.{part_follows}
-use Rattle.host_core.specs.Parts.{sessions_after}
+use Rattle.host_core.specs.CoreParts.{sessions_after}
 
 both : (a b : Bool) → T (a && b) → T a × T b
 both true b t = (tt, t)

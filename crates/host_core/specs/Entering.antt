@@ -15,10 +15,11 @@ use Rattle.log_model.specs.hosted.Hosted.{machine_cells}
 use Rattle.log_model.specs.hosted.Parts.{machine_after, session_cells}
 use Rattle.log_model.specs.replay.Replay.{replay_sessions}
 use Rattle.log_model.specs.hosted.Sound.{IsSound}
+use Rattle.log_model.specs.serving.Positions.{Position, with_alive, with_new, without_position}
 use Rattle.event_batches.specs.Rising.{AreBelow}
 use Rattle.session_table.specs.Table.{Beside, Table, IsOpen, beside_alive, beside_changed, reply_room}
 use Rattle.session_table.specs.Places.{table_cells}
-use Rattle.host_core.specs.Parts.{sessions_after}
+use Rattle.host_core.specs.CoreParts.{sessions_after}
 
 -- at how many places of the machine or of the sessions an index is held
 abbrev pub held_at : Cells → Table → ℕ → ℕ
@@ -61,6 +62,13 @@ beside_after index (bodies.Register timeout) bs = bs ++ record { id = index; ali
 beside_after index (bodies.Alive session seq event) bs = beside_changed session (beside_alive index event) bs
 beside_after index (bodies.Close session expired) bs = filter (λ b. not (b.id == session)) bs
 beside_after index _ bs = bs
+
+-- up to which event each session has confirmed its events then
+abbrev pub confirmed_by : ℕ → Body → List Position → List Position
+confirmed_by index (bodies.Register timeout) ps = with_new index ps
+confirmed_by index (bodies.Alive session seq event) ps = with_alive session event ps
+confirmed_by index (bodies.Close session expired) ps = without_position session ps
+confirmed_by index _ ps = ps
 
 -- The entry, which tells this, was entered: each part has followed. Exactly what held a place and holds none now was closed, once each
 -- and with this entry's index, and this entry itself if it holds none.

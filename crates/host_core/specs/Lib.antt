@@ -1,5 +1,5 @@
 pub mod Answers
 pub mod Batching
+pub mod CoreParts
+pub mod CoreState
 pub mod Entering
-pub mod Parts
-pub mod Seen

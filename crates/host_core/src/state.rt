@@ -1,5 +1,5 @@
 // The core of a host: its machine, its sessions and its commits.
-ghost use Rattle.std.specs.Prelude.{◌≡◌, ℕ, ◌≤◌, ◌<◌, ◌+◌, [], cond, is_ok, IfErr, IfOk, IfSome, OnOk, OnErr};
+ghost use Rattle.std.specs.Prelude.{◌≡◌, ℕ, ◌<◌, ◌+◌, [], cond, is_ok, IfErr, IfOk, IfSome, OnOk, OnErr};
 ghost use Rattle.host_types.specs.Cells.{places_of};
 ghost use Rattle.host_types.specs.Ranges.{EntryFits, IsInRange, IsIndex};
 ghost use Rattle.commit_lending.specs.Lent.{tokens};
@@ -9,9 +9,10 @@ ghost use Rattle.log_model.specs.replay.Replay.{replay_entry};
 ghost use Rattle.log_model.specs.hosted.Sound.{IsSound};
 ghost use Rattle.host_core.specs.Answers.{Decides_as, IsStorable};
 ghost use Rattle.session_table.specs.Asked.{confirms};
-ghost use Rattle.session_table.specs.Table.{ConfirmsAcked, IsOpen, IsSame, beside_changed, beside_confirmed, confirmed_of};
-ghost use Rattle.host_core.specs.Entering.{beside_after};
-ghost use Rattle.host_core.specs.Seen.{IsPrepared, hosted};
+ghost use Rattle.session_table.specs.Table.{ConfirmsAcked, IsOpen, IsSame, confirmed_of, confirmed_positions};
+ghost use Rattle.host_core.specs.Entering.{confirmed_by};
+ghost use Rattle.log_model.specs.serving.Positions.{moved_to, position_changed};
+ghost use Rattle.host_core.specs.CoreState.{IsPrepared, hosted};
 
 use crate::batching::Batches;
 use crate::deciding::{DecideError, Decided, decide_ask, decide_at_end};
@@ -24,7 +25,7 @@ use std::alloc::Global;
 use std::marker::Model;
 
 /// The state of a host in memory, over any machine. It is seen as its machine, its sessions, its lender,
-/// the last index and the log's time (`Seen`); together they are the state `hosted`.
+/// the last index and the log's time (`CoreState`); together they are the state `hosted`.
 ///
 /// What it makes of offers and entries is told by the machine's decision alone (`log_model`'s `Hosted` and `Replay`). Between two
 /// calls exactly the entries that hold a cell are out at its lender, and none is closed.
@@ -38,11 +39,11 @@ pub struct Core<M: Machine> {
 
 impl<M: Machine> Model for Core<M> {
     ghost use Rattle.std.specs.Coded.{codes};
-    ghost use Rattle.host_core.specs.Seen.{IsKept, Seen, seen_code};
+    ghost use Rattle.host_core.specs.CoreState.{IsKept, CoreState, core_code};
 
-    ghost Value = { Seen M };
+    ghost Value = { CoreState M };
 
-    ghost coded = { seen_code M.code (Prim.hlevel codes) };
+    ghost coded = { core_code M.code (Prim.hlevel codes) };
 
     ghost view = { λ c. record { machine = c.machine; sessions = c.sessions; lender = c.lender; last = c.last; time = c.time } };
 
@@ -205,7 +206,7 @@ impl<M: Machine> Core<M> {
         requires range { IsInRange index entry }
         requires prepared { IsPrepared M.cells M.is_ready M.decides self.old 0 index entry.body prepared }
         ensures state { hosted M.cells self.new ≡ replay_entry (hosted_told M.decides) 0 (hosted M.cells self.old) (index, entry) }
-        ensures beside { self.new.sessions.beside ≡ beside_after index entry.body self.old.sessions.beside }
+        ensures positions { confirmed_positions self.new.sessions.beside ≡ confirmed_by index entry.body (confirmed_positions self.old.sessions.beside) }
     {
         let Prepared { batches } = prepared;
         self.take(index, entry, batches, 0);
@@ -233,7 +234,7 @@ impl<M: Machine> Core<M> {
         requires range { IsInRange index entry }
         ensures ok { OnOk result (hosted M.cells self.new ≡ replay_entry (hosted_told M.decides) cut (hosted M.cells self.old) (index, entry)) }
         ensures err { OnErr result (hosted M.cells self.new ≡ hosted M.cells self.old) }
-        ensures beside { OnOk result (self.new.sessions.beside ≡ beside_after index entry.body self.old.sessions.beside) }
+        ensures positions { OnOk result (confirmed_positions self.new.sessions.beside ≡ confirmed_by index entry.body (confirmed_positions self.old.sessions.beside)) }
         // Of a log that is opened again no event is confirmed that a keep-alive didn't acknowledge.
         ensures confirmed { OnOk result (ConfirmsAcked self.old.sessions → ConfirmsAcked self.new.sessions) }
         ensures sessions { OnErr result (IsSame self.old.sessions self.new.sessions) }
@@ -250,7 +251,7 @@ impl<M: Machine> Core<M> {
         requires range { IsInRange index entry }
         requires prepared { IsPrepared M.cells M.is_ready M.decides self.old cut index entry.body batches.entries }
         ensures state { hosted M.cells self.new ≡ replay_entry (hosted_told M.decides) cut (hosted M.cells self.old) (index, entry) }
-        ensures beside { self.new.sessions.beside ≡ beside_after index entry.body self.old.sessions.beside }
+        ensures positions { confirmed_positions self.new.sessions.beside ≡ confirmed_by index entry.body (confirmed_positions self.old.sessions.beside) }
     {
         let time = entry.time;
         let commit = self.lender.lend(index);
@@ -276,7 +277,7 @@ impl<M: Machine> Core<M> {
         ensures event { OnOk result (confirmed_of id self.new.sessions ≡ event) }
         ensures err { IfErr result (λ at. at ≡ confirmed_of id self.old.sessions) }
         ensures state { hosted M.cells self.new ≡ hosted M.cells self.old }
-        ensures beside { self.new.sessions.beside ≡ cond (is_ok result) (beside_changed id (beside_confirmed event) self.old.sessions.beside) self.old.sessions.beside }
+        ensures positions { confirmed_positions self.new.sessions.beside ≡ cond (is_ok result) (position_changed id (moved_to event) (confirmed_positions self.old.sessions.beside)) (confirmed_positions self.old.sessions.beside) }
     {
         self.sessions.confirm(id, event)
     }

@@ -27,9 +27,10 @@ use Rattle.log_model.specs.hosted.Sound.{IsSound}
 use Rattle.log_model.specs.plain.Stored.{is_admission, is_expiry_of}
 use Rattle.log_model.proofs.hosted.HostedLogs.{grown}
 use Rattle.log_model.proofs.hosted.OfMachines.{admitted_in_range, logs_sound, step_is_replay}
-use Rattle.host_core.specs.Seen.{hosted}
-use Rattle.host_recovery.specs.Seen.{Seen}
-use Rattle.host_recovery.specs.Standing.{StandsAt, StandsFor, StandsOrExpires, StandsOrGains, StandsOrTakes, log_in}
+use Rattle.host_core.specs.CoreState.{hosted}
+use Rattle.host_recovery.specs.HostState.{HostState}
+use Rattle.host_recovery.specs.Logs.{StandsFor, hosted_form}
+use Rattle.host_recovery.specs.Standing.{StandsAt, StandsOrExpires, StandsOrGains, StandsOrTakes, log_in}
 use Rattle.host_recovery.specs.Answers.{OnAnswer, admits_file, admits_stored, answer_of, expiry_stored, if_filed}
 use Rattle.host_recovery.specs.declared.answers.Answer.{Answer}
 use Rattle.host_recovery.proofs.Files.{stands_now}
@@ -38,14 +39,14 @@ fit_more : (items : List Item) (item : Item) → ItemsFit items → ItemFits ite
 fit_more [] item fit here = (here, tt)
 fit_more (x ∷ items) item fit here = (fit.0, fit_more items item fit.1 here)
 
-module _ {D M : Type 0} (d : MachineDecision) (view : D → View) (cells : M → Cells) (old : Seen D M) (items : List Item) (item : Item) (entry : Entry) where
+module _ {D M : Type 0} (d : MachineDecision) (view : D → View) (cells : M → Cells) (old : HostState D M) (items : List Item) (item : Item) (entry : Entry) where
   -- what is stored of the item makes the log's stored form longer
   stored_more : StandsAt d view cells old items → entry ≡ hosted_entry d (hosted cells old.core) item → log_in (view old.disk) old.parts ++ entry ∷ [] ≡ hosted_stored d (items ++ item ∷ [])
   stored_more at is =
       (λ i. at.stored i ++ (is ∙ ap (λ (s : Hosted). hosted_entry d s item) at.state) i ∷ []) ∙ sym (grown d items item).stored
 
   -- with the item it stands at the log with the item
-  pub stands_more : (new : Seen D M) → MachineIsLawful d → StandsAt d view cells old items → ItemFits item → IsTrue (is_hosted_admitted d (hosted cells old.core) item)
+  pub stands_more : (new : HostState D M) → MachineIsLawful d → StandsAt d view cells old items → ItemFits item → IsTrue (is_hosted_admitted d (hosted cells old.core) item)
       → entry ≡ hosted_entry d (hosted cells old.core) item → new.stopped ≡ false
       → hosted cells new.core ≡ replay_entry (hosted_told d) 0 (hosted cells old.core) ((hosted cells old.core).last + 1, entry)
       → log_in (view new.disk) new.parts ≡ log_in (view old.disk) old.parts ++ entry ∷ [] → IsHeld (view new.disk) new.parts.name new.parts.tail
@@ -78,13 +79,13 @@ module _ {D M : Type 0} (d : MachineDecision) (view : D → View) (cells : M →
       (λ new_log. inr (subst (λ (l : List Entry). Stands (folder old.parts.name c) l) (stored_more at is) new_log)) has)
 
 -- what a crash leaves of a host where nothing is done
-pub stands_for : {D M : Type 0} (d : MachineDecision) (view : D → View) (cells : M → Cells) (h : Seen D M) (items : List Item) → StandsAt d view cells h items
-    → Fits (view h.disk) h.parts.name h.parts.tail h.parts.greatest → (c : Image) → MayLeave (view h.disk) c → StandsFor d h.parts.name c items
+pub stands_for : {D M : Type 0} (d : MachineDecision) (view : D → View) (cells : M → Cells) (h : HostState D M) (items : List Item) → StandsAt d view cells h items
+    → Fits (view h.disk) h.parts.name h.parts.tail h.parts.greatest → (c : Image) → MayLeave (view h.disk) c → StandsFor (hosted_form d) h.parts.name c items
 stands_for d view cells h items at fits c may =
     subst (λ (l : List Entry). Stands (folder h.parts.name c) l) at.stored (stands_now (view h.disk) h.parts.name h.parts.tail h.parts.greatest fits at.held c may)
 
-module _ {D M : Type 0} (d : MachineDecision) (view : D → View) (cells : M → Cells) (h : Seen D M) (items : List Item) (item : Item) where
-  none_taken : (admission : Admission) (c : Image) → StandsFor d h.parts.name c items → StandsOrTakes d h.parts.name items item admission c
+module _ {D M : Type 0} (d : MachineDecision) (view : D → View) (cells : M → Cells) (h : HostState D M) (items : List Item) (item : Item) where
+  none_taken : (admission : Admission) (c : Image) → StandsFor (hosted_form d) h.parts.name c items → StandsOrTakes d h.parts.name items item admission c
   none_taken Admitted c stands = inl stands
   none_taken (Repeats reply) c stands = stands
   none_taken (Refused why) c stands = stands
@@ -153,8 +154,8 @@ expires_so s time session late due short =
 pub expiry_admitted : (d : MachineDecision) (s : Hosted) (time session : ℕ) → hosted_expires s time ≡ Expires session → IsTrue (is_hosted_admitted d s (Expired time session))
 expiry_admitted d s time session is = ap (is_expiry_of session) is ∙ nat_eq_equiv.refl session
 
-module _ {D M : Type 0} (d : MachineDecision) (view : D → View) (cells : M → Cells) (h : Seen D M) (items : List Item) (time : ℕ) where
-  none_expired : (expiry : Expiry) (c : Image) → StandsFor d h.parts.name c items → StandsOrExpires d h.parts.name items time expiry c
+module _ {D M : Type 0} (d : MachineDecision) (view : D → View) (cells : M → Cells) (h : HostState D M) (items : List Item) (time : ℕ) where
+  none_expired : (expiry : Expiry) (c : Image) → StandsFor (hosted_form d) h.parts.name c items → StandsOrExpires d h.parts.name items time expiry c
   none_expired (Expires session) c stands = inl stands
   none_expired Nobody c stands = stands
   none_expired (Not_now why) c stands = stands

@@ -1,3 +1,4 @@
+pub mod Confirmed
 pub mod Files
 pub mod Growing
 pub mod Laying

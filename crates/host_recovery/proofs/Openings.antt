@@ -18,10 +18,10 @@ use Rattle.log_model.specs.replay.Replay.{Telling, replay_entry, replay_from, re
 use Rattle.log_model.proofs.cleaning.Appends.{fresh}
 use Rattle.log_model.proofs.replay.WholeFold.{gives_hosted_fold}
 use Rattle.host_types.specs.Cells.{Cells}
-use Rattle.host_core.specs.Seen.{hosted}
-use Rattle.host_recovery.specs.Seen.{Seen}
-use Rattle.host_recovery.specs.Standing.{IsLog}
-use Rattle.host_recovery.specs.Opening.{HasPrefix, IsInOrder, OpensAt}
+use Rattle.host_core.specs.CoreState.{hosted}
+use Rattle.host_recovery.specs.HostState.{HostState}
+use Rattle.host_recovery.specs.Logs.{HasPrefix, IsInOrder, IsLog, hosted_form}
+use Rattle.host_recovery.specs.Opening.{OpensAt}
 use Rattle.host_recovery.proofs.Files.{parts_are}
 
 pub none_left : {X : Type 0} (l : List X) → length l ≡ 0 → l ≡ []
@@ -61,13 +61,13 @@ fit_take [] (suc n) fit = tt
 fit_take (item ∷ items) (suc n) fit = (fit.0, fit_take items n fit.1)
 
 -- a prefix of a log is a log
-pub log_prefix : (d : MachineDecision) (items : List Item) (n : ℕ) → IsLog d items → IsLog d (take n items)
+pub log_prefix : (d : MachineDecision) (items : List Item) (n : ℕ) → IsLog (hosted_form d) items → IsLog (hosted_form d) (take n items)
 log_prefix d items n log = record { admitted = log_take d hosted_nothing items n log.admitted; fits = fit_take items n log.fits }
 
 -- ---- the state of what was read
 
 -- the entries of files that hold a log's stored form are replayed to what the log comes to
-replays : (d : MachineDecision) (items : List Item) (parts : List Part) (s : Hosted) → MachineIsLawful d → MachineHasOneOwner d → IsLog d items
+replays : (d : MachineDecision) (items : List Item) (parts : List Part) (s : Hosted) → MachineIsLawful d → MachineHasOneOwner d → IsLog (hosted_form d) items
     → AreOf parts (log_of parts) → log_of parts ≡ hosted_stored d items → s ≡ replayed (hosted_told d) 0 (entries_of parts) → s ≡ hosted_folded d items
 replays d items parts s lawful owner log are stored state =
     state
@@ -95,7 +95,7 @@ log_read files parts log choice stands =
 -- ---- in order
 
 -- what stands for a prefix of the items stands for one of the entries, and the other way about
-pub entries_prefix : (d : MachineDecision) (name : List ℕ) (items : List Item) (least : ℕ) (image : Image) → HasPrefix d name items least image → StandsForPrefix name (hosted_stored d items) least image
+pub entries_prefix : (d : MachineDecision) (name : List ℕ) (items : List Item) (least : ℕ) (image : Image) → HasPrefix (hosted_form d) name items least image → StandsForPrefix name (hosted_stored d items) least image
 entries_prefix d name items least image has = record {
   count = has.count;
   enough = has.enough;
@@ -103,7 +103,7 @@ entries_prefix d name items least image has = record {
   stands = subst (λ (l : List Entry). Stands (folder name image) l) (stored_prefix d items has.count) has.stands;
 }
 
-pub items_prefix : (d : MachineDecision) (name : List ℕ) (items : List Item) (least : ℕ) (image : Image) → StandsForPrefix name (hosted_stored d items) least image → HasPrefix d name items least image
+pub items_prefix : (d : MachineDecision) (name : List ℕ) (items : List Item) (least : ℕ) (image : Image) → StandsForPrefix name (hosted_stored d items) least image → HasPrefix (hosted_form d) name items least image
 items_prefix d name items least image has = record {
   count = has.count;
   enough = has.enough;
@@ -134,8 +134,8 @@ ends_with telling s t list fresh are is =
 
 -- ---- the host that was opened
 
-pub opens_at : {D M : Type 0} (d : MachineDecision) (view : D → View) (cells : M → Cells) (v0 : View) (h : Seen D M) (items : List Item) (least : ℕ)
-    → MachineIsLawful d → MachineHasOneOwner d → IsSound v0 → IsInOrder d v0 h.parts.name items least → h.stopped ≡ false
+pub opens_at : {D M : Type 0} (d : MachineDecision) (view : D → View) (cells : M → Cells) (v0 : View) (h : HostState D M) (items : List Item) (least : ℕ)
+    → MachineIsLawful d → MachineHasOneOwner d → IsSound v0 → IsInOrder (hosted_form d) v0 h.parts.name items least → h.stopped ≡ false
     → Fits (view h.disk) h.parts.name h.parts.tail h.parts.greatest
     → IsChoice (folder h.parts.name v0.reading) (parts_in (view h.disk).reading h.parts.name h.parts.tail)
     → IsHeld (view h.disk) h.parts.name h.parts.tail

@@ -16,36 +16,36 @@ use Rattle.log_model.specs.plain.Admission.{Item}
 use Rattle.log_model.specs.hosted.Hosted.{hosted_stored, hosted_told}
 use Rattle.log_model.specs.cleaning.Layout.{alone}
 use Rattle.log_model.specs.replay.Replay.{replayed}
-use Rattle.host_core.specs.Seen.{hosted}
-use Rattle.host_recovery.specs.Seen.{Seen}
-use Rattle.host_recovery.specs.Opening.{HasPrefix, IsInOrder}
-use Rattle.host_recovery.specs.Standing.{StandsAt, StandsFor, layout_in}
+use Rattle.host_core.specs.CoreState.{hosted}
+use Rattle.host_recovery.specs.HostState.{HostState}
+use Rattle.host_recovery.specs.Logs.{HasPrefix, IsInOrder, StandsFor, hosted_form}
+use Rattle.host_recovery.specs.Standing.{StandsAt, layout_in}
 use Rattle.host_recovery.proofs.Growing.{stands_for}
 use Rattle.host_recovery.proofs.Laying.{choice_is, is_laid_out, lie_alike, lies_so, none_at_fault}
 use Rattle.host_recovery.proofs.Openings.{entries_prefix, items_prefix, opens_at}
 use Rattle.host_recovery.proofs.Stores.{stays_empty}
 
 -- what stands for all items at least stands for them
-whole_prefix : (d : MachineDecision) (name : List ℕ) (items : List Item) (image : Image) → HasPrefix d name items (length items) image → StandsFor d name image items
-whole_prefix d name items image has = subst (StandsFor d name image) (take_all has.count items has.enough) has.stands
+whole_prefix : (d : MachineDecision) (name : List ℕ) (items : List Item) (image : Image) → HasPrefix (hosted_form d) name items (length items) image → StandsFor (hosted_form d) name image items
+whole_prefix d name items image has = subst (StandsFor (hosted_form d) name image) (take_all has.count items has.enough) has.stands
 
-module _ {D M : Type 0} (d : MachineDecision) (view : D → View) (cells : M → Cells) (old : Seen D M) (items : List Item) (at : StandsAt d view cells old items)
+module _ {D M : Type 0} (d : MachineDecision) (view : D → View) (cells : M → Cells) (old : HostState D M) (items : List Item) (at : StandsAt d view cells old items)
     (fits : Fits (view old.disk) old.parts.name old.parts.tail old.parts.greatest) where
   -- its folder is in order for all of the log
-  stays_in_order : IsInOrder d (view old.disk) old.parts.name items (length items)
+  stays_in_order : IsInOrder (hosted_form d) (view old.disk) old.parts.name items (length items)
   stays_in_order = record {
     log = at.log;
     each = λ image may. record {
       count = length items;
       enough = omega arith;
       within = omega arith;
-      stands = subst (StandsFor d old.parts.name image) (sym (take_all (length items) items (omega arith))) (stands_for d view cells old items at fits image may);
+      stands = subst (StandsFor (hosted_form d) old.parts.name image) (sym (take_all (length items) items (omega arith))) (stands_for d view cells old items at fits image may);
     };
     empty = stays_empty (view old.disk) old.parts fits at.held;
   }
 
   -- so the host that is opened on it stands at all of the log
-  pub stands_again : (new : Seen D M) → MachineIsLawful d → MachineHasOneOwner d → IsSound (view old.disk) → new.parts.name ≡ old.parts.name → new.stopped ≡ false
+  pub stands_again : (new : HostState D M) → MachineIsLawful d → MachineHasOneOwner d → IsSound (view old.disk) → new.parts.name ≡ old.parts.name → new.stopped ≡ false
       → Fits (view new.disk) old.parts.name new.parts.tail new.parts.greatest
       → IsChoice (folder old.parts.name (view old.disk).reading) (parts_in (view new.disk).reading old.parts.name new.parts.tail)
       → IsHeld (view new.disk) old.parts.name new.parts.tail
@@ -54,7 +54,7 @@ module _ {D M : Type 0} (d : MachineDecision) (view : D → View) (cells : M →
   stands_again new lawful owner sound named runs new_fits choice held state =
       let is = sym named in
       let opened = opens_at d view cells (view old.disk) new items (length items) lawful owner sound
-      (subst (λ (n : List ℕ). IsInOrder d (view old.disk) n items (length items)) is stays_in_order) runs
+      (subst (λ (n : List ℕ). IsInOrder (hosted_form d) (view old.disk) n items (length items)) is stays_in_order) runs
       (subst (λ (n : List ℕ). Fits (view new.disk) n new.parts.tail new.parts.greatest) is new_fits)
       (subst (λ (n : List ℕ). IsChoice (folder n (view old.disk).reading) (parts_in (view new.disk).reading n new.parts.tail)) is choice)
       (subst (λ (n : List ℕ). IsHeld (view new.disk) n new.parts.tail) is held)
@@ -64,11 +64,11 @@ module _ {D M : Type 0} (d : MachineDecision) (view : D → View) (cells : M →
   -- and whatever a crash leaves on the way stands for it
   pub leaves_whole : (w : View)
       → ((least : ℕ) → FilesAreInOrder (view old.disk) old.parts.name (hosted_stored d items) least → LeavesOnly (view old.disk) w (StandsForPrefix old.parts.name (hosted_stored d items) least))
-      → LeavesOnly (view old.disk) w (λ (image : Image). StandsFor d old.parts.name image items)
+      → LeavesOnly (view old.disk) w (λ (image : Image). StandsFor (hosted_form d) old.parts.name image items)
   leaves_whole w leaves =
       let name = old.parts.name in
       let least = length items in
-      weaker (view old.disk) w (StandsForPrefix name (hosted_stored d items) least) (λ (image : Image). StandsFor d name image items)
+      weaker (view old.disk) w (StandsForPrefix name (hosted_stored d items) least) (λ (image : Image). StandsFor (hosted_form d) name image items)
       (leaves least (λ image may. entries_prefix d name items least image (stays_in_order.each image may)))
       (λ image has. whole_prefix d name items image (items_prefix d name items least image has))
 

@@ -11,14 +11,14 @@ use Rattle.disk_model.specs.declared.disk.DiskFault.{DiskFault}
 use Rattle.disk_model.specs.declared.disk.DiskFault.TheVariants as faults
 use Rattle.segment_set.specs.declared.parts.Parts.{Parts}
 use Rattle.log_model.specs.plain.Admission.{Admission, Admitted, Repeats, Refused, Expiry, Expires, Nobody, Not_now, first_refusal, refused_if}
-use Rattle.host_core.specs.Seen.{hosted}
+use Rattle.host_core.specs.CoreState.{hosted}
 use Rattle.host_recovery.specs.declared.answers.Answer.{Answer}
 use Rattle.host_recovery.specs.declared.answers.Answer.TheVariants as answers
 use Rattle.host_recovery.specs.declared.answers.HostError.{HostError}
 use Rattle.host_recovery.specs.declared.answers.HostError.TheVariants as errors
 use Rattle.host_recovery.specs.declared.answers.AskError.{AskError}
 use Rattle.host_recovery.specs.declared.answers.AskError.TheVariants as unasked
-use Rattle.host_recovery.specs.Seen.{Seen}
+use Rattle.host_recovery.specs.HostState.{HostState}
 
 -- An entry finds a file: there is one, or a generation is left for a new one. So by whether a new one is needed, and by the greatest
 -- generation.
@@ -65,11 +65,11 @@ OnAnswer (Ok answer) repeated stored = stored
 OnAnswer (Err error) repeated stored = Unit {0}
 
 -- its state is as before, and so are the confirmed events
-abbrev pub KeepsState : {D M : Type 0} → (M → Cells) → Seen D M → Seen D M → Type 0
+abbrev pub KeepsState : {D M : Type 0} → (M → Cells) → HostState D M → HostState D M → Type 0
 KeepsState cells old new = (hosted cells new.core ≡ hosted cells old.core) × (new.core.sessions.beside ≡ old.core.sessions.beside)
 
 -- it is as before, but for room
-pub record IsAsBefore {D M : Type 0} (cells : M → Cells) (old new : Seen D M) : Type 0 where
+pub record IsAsBefore {D M : Type 0} (cells : M → Cells) (old new : HostState D M) : Type 0 where
   pub disk : new.disk ≡ old.disk
   pub parts : new.parts ≡ old.parts
   pub stopped : new.stopped ≡ old.stopped
@@ -77,7 +77,7 @@ pub record IsAsBefore {D M : Type 0} (cells : M → Cells) (old new : Seen D M) 
 
 -- A refusal changes nothing. Want of memory changes nothing, or a call of the disk had it, which stops the host. A fault of the disk
 -- stops it. Its state is as before in any case.
-abbrev pub AfterError : {D M : Type 0} → (M → Cells) → Seen D M → Seen D M → HostError → Type 0
+abbrev pub AfterError : {D M : Type 0} → (M → Cells) → HostState D M → HostState D M → HostError → Type 0
 AfterError cells old new errors.Stopped = new ≡ old
 AfterError cells old new (errors.Refused why) = new ≡ old
 AfterError cells old new errors.NoMemory = KeepsState cells old new × ((new.stopped ≡ true) ⊎ IsAsBefore cells old new)

@@ -1,6 +1,7 @@
 pub mod Answers
+pub mod HostState
+pub mod Logs
 pub mod Lying
 pub mod Opening
-pub mod Seen
 pub mod Serving
 pub mod Standing

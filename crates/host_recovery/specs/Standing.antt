@@ -6,40 +6,30 @@ use Rattle.host_types.specs.Decision.{MachineDecision}
 use Rattle.disk_model.specs.Image.{Image}
 use Rattle.disk_model.specs.View.{View}
 use Rattle.segment_files.specs.Parse.{Part}
-use Rattle.segment_files.specs.Folder.{folder, Stands}
 use Rattle.segment_set.specs.declared.parts.Parts.{Parts}
 use Rattle.segment_set.specs.Fits.{Fits, IsHeld, last_of, log_of, parts_in}
 use Rattle.log_model.specs.plain.Admission.{Item, Admission, Admitted, Repeats, Refused, Expired, Expiry, Expires, Nobody, Not_now}
-use Rattle.log_model.specs.plain.Fitting.{ItemsFit}
-use Rattle.log_model.specs.hosted.Hosted.{hosted_folded, hosted_stored, is_hosted_log}
+use Rattle.log_model.specs.hosted.Hosted.{hosted_folded, hosted_stored}
 use Rattle.log_model.specs.cleaning.Layout.{Layout, PartLayout}
-use Rattle.host_core.specs.Seen.{hosted}
-use Rattle.host_recovery.specs.Seen.{Seen}
-
--- a log that a host may have taken: each item was admitted where it stands, and is as the program's types have it
-pub record IsLog (d : MachineDecision) (items : List Item) : Type 0 where
-  pub admitted : IsTrue (is_hosted_log d items)
-  pub fits : ItemsFit items
-
--- under this name an image stands for this log: its parts hold the log's stored form
-abbrev pub StandsFor : MachineDecision → List ℕ → Image → List Item → Type 0
-StandsFor d name image items = Stands (folder name image) (hosted_stored d items)
+use Rattle.host_core.specs.CoreState.{hosted}
+use Rattle.host_recovery.specs.Logs.{IsLog, StandsFor, hosted_form}
+use Rattle.host_recovery.specs.HostState.{HostState}
 
 -- an image stands for the log without the item or with it
 abbrev pub StandsOrGains : MachineDecision → List ℕ → List Item → Item → Image → Type 0
-StandsOrGains d name items item image = StandsFor d name image items ⊎ StandsFor d name image (items ++ item ∷ [])
+StandsOrGains d name items item image = StandsFor (hosted_form d) name image items ⊎ StandsFor (hosted_form d) name image (items ++ item ∷ [])
 
 -- or, where the item is admitted, without it or with it
 abbrev pub StandsOrTakes : MachineDecision → List ℕ → List Item → Item → Admission → Image → Type 0
 StandsOrTakes d name items item Admitted image = StandsOrGains d name items item image
-StandsOrTakes d name items item (Repeats reply) image = StandsFor d name image items
-StandsOrTakes d name items item (Refused why) image = StandsFor d name image items
+StandsOrTakes d name items item (Repeats reply) image = StandsFor (hosted_form d) name image items
+StandsOrTakes d name items item (Refused why) image = StandsFor (hosted_form d) name image items
 
 -- or without the end of a session that expires, or with it
 abbrev pub StandsOrExpires : MachineDecision → List ℕ → List Item → ℕ → Expiry → Image → Type 0
 StandsOrExpires d name items time (Expires session) image = StandsOrGains d name items (Expired time session) image
-StandsOrExpires d name items time Nobody image = StandsFor d name image items
-StandsOrExpires d name items time (Not_now why) image = StandsFor d name image items
+StandsOrExpires d name items time Nobody image = StandsFor (hosted_form d) name image items
+StandsOrExpires d name items time (Not_now why) image = StandsFor (hosted_form d) name image items
 
 -- what the files of a host hold
 abbrev pub log_in : View → Parts → List Entry
@@ -54,9 +44,9 @@ layout_in v parts = record { parts = map part_layout (parts_in v.reading parts.n
 
 -- A host stands at a log: it runs, its files hold the log's stored form, so does whatever a crash leaves now, and its state is what
 -- the log comes to.
-pub record StandsAt {D M : Type 0} (d : MachineDecision) (view : D → View) (cells : M → Cells) (h : Seen D M) (items : List Item) : Type 0 where
+pub record StandsAt {D M : Type 0} (d : MachineDecision) (view : D → View) (cells : M → Cells) (h : HostState D M) (items : List Item) : Type 0 where
   pub runs : h.stopped ≡ false
-  pub log : IsLog d items
+  pub log : IsLog (hosted_form d) items
   pub stored : log_in (view h.disk) h.parts ≡ hosted_stored d items
   pub held : IsHeld (view h.disk) h.parts.name h.parts.tail
   pub state : hosted cells h.core ≡ hosted_folded d items
@@ -64,7 +54,7 @@ pub record StandsAt {D M : Type 0} (d : MachineDecision) (view : D → View) (ce
 -- ---- what a host keeps
 
 -- Where it runs, the disk fits what is remembered of the files, which have as many entries as the core took.
-pub record IsKept {D M : Type 0} (tells : Bool) (view : D → View) (cells : M → Cells) (h : Seen D M) : Type 0 where
+pub record IsKept {D M : Type 0} (tells : Bool) (view : D → View) (cells : M → Cells) (h : HostState D M) : Type 0 where
   pub size_first : 2 ≤ h.size
   pub size_last : h.size ≤ 65536
   pub last : h.stopped ≡ false → h.core.last ≡ last_of h.parts.tail

@@ -27,12 +27,12 @@ pub struct Host<D: Disk, M: Machine> {
 
 impl<D: Disk, M: Machine> Model for Host<D, M> {
     ghost use Rattle.std.specs.Coded.{codes};
-    ghost use Rattle.host_core.specs.Seen.{seen_code as core_code};
-    ghost use Rattle.host_recovery.specs.Seen.{Seen, seen_code};
+    ghost use Rattle.host_core.specs.CoreState.{core_code};
+    ghost use Rattle.host_recovery.specs.HostState.{HostState, host_code};
 
-    ghost Value = { Seen D M };
+    ghost Value = { HostState D M };
 
-    ghost coded = { seen_code D.code (Prim.hlevel codes) (core_code M.code (Prim.hlevel codes)) };
+    ghost coded = { host_code D.code (Prim.hlevel codes) (core_code M.code (Prim.hlevel codes)) };
 
     ghost use Rattle.host_recovery.specs.Standing.{IsKept};
 

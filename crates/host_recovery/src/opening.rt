@@ -14,10 +14,11 @@ ghost use Rattle.log_model.specs.hosted.Hosted.{hosted_nothing, hosted_told};
 ghost use Rattle.log_model.specs.cleaning.Layout.{alone};
 ghost use Rattle.log_model.specs.replay.Replay.{replay_from, replayed};
 ghost use Rattle.session_table.specs.Table.{ConfirmsAcked};
-ghost use Rattle.host_core.specs.Seen.{hosted};
-ghost use Rattle.host_recovery.specs.Standing.{StandsAt, StandsFor, layout_in};
+ghost use Rattle.host_core.specs.CoreState.{hosted};
+ghost use Rattle.host_recovery.specs.Standing.{StandsAt, layout_in};
 ghost use Rattle.host_recovery.specs.Lying.{Lies};
-ghost use Rattle.host_recovery.specs.Opening.{HasPrefix, IsInOrder, OpensAt, disk_behind, went};
+ghost use Rattle.host_recovery.specs.Logs.{HasPrefix, IsInOrder, StandsFor, hosted_form};
+ghost use Rattle.host_recovery.specs.Opening.{OpensAt, disk_behind, went};
 
 use crate::host::Host;
 use disk_model::Disk;
@@ -99,9 +100,9 @@ impl<D: Disk, M: Machine> Host<D, M> {
         requires least { 2 ≤ segment }
         requires most { segment ≤ 65536 }
         ensures name { IfOk result (λ h. (h.parts.name ≡ name.now) × (h.size ≡ segment) × (h.stopped ≡ false)) }
-        ensures stands { IsTrue D.tells → (items : List Item) (least : ℕ) → IsInOrder M.decides (D.view disk) name.now items least → IfOk result (OpensAt M.decides D.view M.cells (D.view disk) items least) }
-        ensures any_moment { IsTrue D.tells → (items : List Item) (least : ℕ) → IsInOrder M.decides (D.view disk) name.now items least
-            → LeavesOnly (D.view disk) (D.view (disk_behind result)) (HasPrefix M.decides name.now items least) }
+        ensures stands { IsTrue D.tells → (items : List Item) (least : ℕ) → IsInOrder (hosted_form M.decides) (D.view disk) name.now items least → IfOk result (OpensAt M.decides D.view M.cells (D.view disk) items least) }
+        ensures any_moment { IsTrue D.tells → (items : List Item) (least : ℕ) → IsInOrder (hosted_form M.decides) (D.view disk) name.now items least
+            → LeavesOnly (D.view disk) (D.view (disk_behind result)) (HasPrefix (hosted_form M.decides) name.now items least) }
         ensures confirmed { IfOk result (λ h. ConfirmsAcked h.core.sessions) }
         ensures faultless { OnOk result (IsTrue D.tells → (id : FileId) (at : ℕ) → IsFault (folder name.now (D.view disk).reading) id at → ⊥) }
         ensures lies { IfOk result (λ h. IsTrue D.tells → Lies name.now (D.view disk).reading (layout_in (D.view h.disk) h.parts)) }
@@ -149,10 +150,10 @@ impl<D: Disk, M: Machine> Host<D, M> {
         ensures confirmed { OnOk result (ConfirmsAcked self.new.core.sessions) }
 
         // On a folder that is in order.
-        ensures opens { IsTrue D.tells → (items : List Item) (least : ℕ) → IsInOrder M.decides (D.view self.old.disk) self.old.parts.name items least
+        ensures opens { IsTrue D.tells → (items : List Item) (least : ℕ) → IsInOrder (hosted_form M.decides) (D.view self.old.disk) self.old.parts.name items least
             → OnOk result (OpensAt M.decides D.view M.cells (D.view self.old.disk) items least self.new) }
-        ensures leaves { IsTrue D.tells → (items : List Item) (least : ℕ) → IsInOrder M.decides (D.view self.old.disk) self.old.parts.name items least
-            → LeavesOnly (D.view self.old.disk) (D.view self.new.disk) (HasPrefix M.decides self.old.parts.name items least) }
+        ensures leaves { IsTrue D.tells → (items : List Item) (least : ℕ) → IsInOrder (hosted_form M.decides) (D.view self.old.disk) self.old.parts.name items least
+            → LeavesOnly (D.view self.old.disk) (D.view self.new.disk) (HasPrefix (hosted_form M.decides) self.old.parts.name items least) }
         ensures lies { OnOk result (IsTrue D.tells → Lies self.old.parts.name (D.view self.old.disk).reading (layout_in (D.view self.new.disk) self.new.parts)) }
 
         // Where it ran.
@@ -160,7 +161,7 @@ impl<D: Disk, M: Machine> Host<D, M> {
         ensures layout { IsTrue D.tells → (items : List Item) → StandsAt M.decides D.view M.cells self.old items
             → OnOk result (layout_in (D.view self.new.disk) self.new.parts ≡ alone (layout_in (D.view self.old.disk) self.old.parts)) }
         ensures any_moment { IsTrue D.tells → (items : List Item) → StandsAt M.decides D.view M.cells self.old items
-            → LeavesOnly (D.view self.old.disk) (D.view self.new.disk) (λ image. StandsFor M.decides self.old.parts.name image items) }
+            → LeavesOnly (D.view self.old.disk) (D.view self.new.disk) (λ image. StandsFor (hosted_form M.decides) self.old.parts.name image items) }
 
         // A damaged file is named by its cause and with its place, and the files are as they were. Where it ran there is none.
         ensures faultless { OnOk result (IsTrue D.tells → (id : FileId) (at : ℕ) → IsFault (folder self.old.parts.name (D.view self.old.disk).reading) id at → ⊥) }

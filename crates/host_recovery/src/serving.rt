@@ -3,8 +3,9 @@ ghost use Rattle.std.specs.Prelude.{◌≡◌, None, IfOk, OnErr, OnOk, cond, is
 ghost use Rattle.std.specs.Option.{option_map};
 ghost use Rattle.event_batches.specs.Kept.{as_batch};
 ghost use Rattle.session_table.specs.Asked.{batch_at};
-ghost use Rattle.session_table.specs.Table.{IsOpen, beside_changed, beside_confirmed, confirmed_of, session_at};
-ghost use Rattle.host_core.specs.Seen.{hosted};
+ghost use Rattle.session_table.specs.Table.{IsOpen, confirmed_of, confirmed_positions, session_at};
+ghost use Rattle.log_model.specs.serving.Positions.{moved_to, position_changed};
+ghost use Rattle.host_core.specs.CoreState.{hosted};
 ghost use Rattle.host_recovery.specs.Serving.{IsAcknowledged};
 
 use crate::host::Host;
@@ -44,7 +45,8 @@ impl<D: Disk, M: Machine> Host<D, M> {
     /// and changes nothing. It isn't stored: at the next opening only keep-alives count. It takes no memory.
     pub fn ack(&mut self, session: Index, event: Index) -> Result<(), AckError>
         ensures answer { IsAcknowledged session event self.old.core.sessions result }
-        ensures confirmed { self.new.core.sessions.beside ≡ cond (is_ok result) (beside_changed session (beside_confirmed event) self.old.core.sessions.beside) self.old.core.sessions.beside }
+        ensures confirmed { confirmed_positions self.new.core.sessions.beside ≡ cond (is_ok result) (position_changed session (moved_to event) (confirmed_positions self.old.core.sessions.beside))
+            (confirmed_positions self.old.core.sessions.beside) }
         ensures event { OnOk result (confirmed_of session self.new.core.sessions ≡ event) }
         ensures state { hosted M.cells self.new.core ≡ hosted M.cells self.old.core }
         ensures disk { self.new.disk ≡ self.old.disk }

@@ -1,19 +1,20 @@
 // A host stores what is offered and who is due.
-ghost use Rattle.std.specs.Prelude.{◌≡◌, ◌<◌, ◌+◌, ◌⊎◌, ℕ, List, [], ◌∷◌, ◌++◌, false, true, None, IsTrue, IfOk, IfErr, OnOk};
-ghost use Rattle.host_types.specs.Limits.{index_limit, last_limit};
+ghost use Rattle.std.specs.Prelude.{◌≡◌, ◌<◌, ◌+◌, List, [], ◌∷◌, ◌++◌, false, true, None, IsTrue, IfOk, IfErr, OnOk};
+ghost use Rattle.host_types.specs.Limits.{last_limit};
 ghost use Rattle.host_types.specs.Ranges.{EntryFits, IsInRange};
 ghost use Rattle.disk_model.specs.View.{LeavesOnly};
 ghost use Rattle.segment_files.specs.Contents.{shut_frame_bytes};
-ghost use Rattle.segment_set.specs.Fits.{IsEmptyWhereNone, IsHeld, KeepsNames, StandsOrGains as FilesStandOrGain, last_of};
+ghost use Rattle.segment_set.specs.Fits.{IsEmptyWhereNone, IsHeld, KeepsNames, StandsOrGains as FilesStandOrGain};
 ghost use Rattle.log_model.specs.plain.Admission.{Admitted, Item, Offered, Expired};
 ghost use Rattle.host_types.specs.declared.entry.Body.TheVariants as body;
 ghost use Rattle.log_model.specs.plain.Fitting.{ItemFits};
 ghost use Rattle.log_model.specs.hosted.Hosted.{hosted_admits, hosted_entry, hosted_expires, hosted_told};
 ghost use Rattle.log_model.specs.cleaning.Layout.{with_entry};
 ghost use Rattle.log_model.specs.replay.Replay.{replay_entry};
-ghost use Rattle.host_core.specs.Entering.{beside_after};
-ghost use Rattle.host_core.specs.Seen.{hosted};
-ghost use Rattle.host_recovery.specs.Seen.{Seen};
+ghost use Rattle.log_model.specs.serving.Positions.{confirmed_after};
+ghost use Rattle.session_table.specs.Table.{confirmed_positions};
+ghost use Rattle.host_core.specs.Entering.{confirmed_by};
+ghost use Rattle.host_core.specs.CoreState.{hosted};
 ghost use Rattle.host_recovery.specs.Standing.{StandsAt, StandsOrExpires, StandsOrTakes, layout_in, log_in};
 ghost use Rattle.host_recovery.specs.Answers.{AfterError, HasHostCause, IsAnswer, IsExpiry, OnAnswer, IsStoreError, OnExpiry, admits_file, admits_stored, expiry_stored, refused_by};
 
@@ -102,7 +103,7 @@ impl<D: Disk, M: Machine> Host<D, M> {
         requires range { IsInRange ((hosted M.cells self.old.core).last + 1) entry }
         ensures runs { OnOk result (self.new.stopped ≡ false) }
         ensures state { OnOk result (hosted M.cells self.new.core ≡ replay_entry (hosted_told M.decides) 0 (hosted M.cells self.old.core) ((hosted M.cells self.old.core).last + 1, entry)) }
-        ensures confirmed { OnOk result (self.new.core.sessions.beside ≡ beside_after ((hosted M.cells self.old.core).last + 1) entry.body self.old.core.sessions.beside) }
+        ensures confirmed { OnOk result (confirmed_positions self.new.core.sessions.beside ≡ confirmed_by ((hosted M.cells self.old.core).last + 1) entry.body (confirmed_positions self.old.core.sessions.beside)) }
         ensures log { OnOk result (IsTrue D.tells → log_in (D.view self.new.disk) self.new.parts ≡ log_in (D.view self.old.disk) self.old.parts ++ entry ∷ []) }
         ensures layout { OnOk result (IsTrue D.tells → layout_in (D.view self.new.disk) self.new.parts ≡ with_entry self.old.size (layout_in (D.view self.old.disk) self.old.parts)) }
         ensures held { OnOk result (IsTrue D.tells → IsHeld (D.view self.old.disk) self.old.parts.name self.old.parts.tail → IsHeld (D.view self.new.disk) self.new.parts.name self.new.parts.tail) }
@@ -156,8 +157,8 @@ impl<D: Disk, M: Machine> Host<D, M> {
         ensures after { IfErr result (AfterError M.cells self.old self.new) }
         ensures state { OnAnswer result (Unit {0}) (hosted M.cells self.new.core ≡ replay_entry (hosted_told M.decides) 0 (hosted M.cells self.old.core)
             ((hosted M.cells self.old.core).last + 1, hosted_entry M.decides (hosted M.cells self.old.core) (Offered one.now))) }
-        ensures confirmed { OnAnswer result (Unit {0}) (self.new.core.sessions.beside ≡ beside_after ((hosted M.cells self.old.core).last + 1)
-            (hosted_entry M.decides (hosted M.cells self.old.core) (Offered one.now)).body self.old.core.sessions.beside) }
+        ensures confirmed { OnAnswer result (Unit {0}) (confirmed_positions self.new.core.sessions.beside ≡ confirmed_after ((hosted M.cells self.old.core).last + 1) (Offered one.now)
+            (confirmed_positions self.old.core.sessions.beside)) }
         ensures stands { IsTrue D.tells → (items : List Item) → StandsAt M.decides D.view M.cells self.old items
             → OnAnswer result (StandsAt M.decides D.view M.cells self.new items) (StandsAt M.decides D.view M.cells self.new (items ++ Offered one.now ∷ [])) }
         ensures layout { IsTrue D.tells → OnAnswer result (Unit {0}) (layout_in (D.view self.new.disk) self.new.parts ≡ with_entry self.old.size (layout_in (D.view self.old.disk) self.old.parts)) }
@@ -210,7 +211,8 @@ impl<D: Disk, M: Machine> Host<D, M> {
         ensures after { IfErr result (AfterError M.cells self.old self.new) }
         ensures state { OnExpiry result (Unit {0}) (λ session. hosted M.cells self.new.core ≡ replay_entry (hosted_told M.decides) 0 (hosted M.cells self.old.core)
             ((hosted M.cells self.old.core).last + 1, record { time = time; body = body.Close session true })) }
-        ensures confirmed { OnExpiry result (Unit {0}) (λ session. self.new.core.sessions.beside ≡ beside_after ((hosted M.cells self.old.core).last + 1) (body.Close session true) self.old.core.sessions.beside) }
+        ensures confirmed { OnExpiry result (Unit {0}) (λ session. confirmed_positions self.new.core.sessions.beside ≡ confirmed_after ((hosted M.cells self.old.core).last + 1) (Expired time session)
+            (confirmed_positions self.old.core.sessions.beside)) }
         ensures stands { IsTrue D.tells → (items : List Item) → StandsAt M.decides D.view M.cells self.old items
             → OnExpiry result (StandsAt M.decides D.view M.cells self.new items) (λ session. StandsAt M.decides D.view M.cells self.new (items ++ Expired time session ∷ [])) }
         ensures layout { IsTrue D.tells → OnExpiry result (Unit {0}) (λ _. layout_in (D.view self.new.disk) self.new.parts ≡ with_entry self.old.size (layout_in (D.view self.old.disk) self.old.parts)) }

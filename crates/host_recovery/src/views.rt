@@ -5,12 +5,13 @@ ghost use Rattle.disk_model.specs.View.{MayLeave};
 ghost use Rattle.segment_set.specs.Fits.{IsEmptyWhereNone};
 ghost use Rattle.log_model.specs.cleaning.Layout.{alone, needs_file};
 ghost use Rattle.host_recovery.specs.Lying.{LiesAlone};
-ghost use Rattle.host_recovery.specs.Standing.{StandsAt, StandsFor, layout_in};
+ghost use Rattle.host_recovery.specs.Logs.{StandsFor, hosted_form};
+ghost use Rattle.host_recovery.specs.Standing.{StandsAt, layout_in};
 ghost use Rattle.host_types.specs.Decision.{is_looking};
 ghost use Rattle.log_model.specs.plain.Admission.{Item, due_in};
 ghost use Rattle.log_model.specs.hosted.Hosted.{hosted_quiet, machine_cells};
 ghost use Rattle.session_table.specs.Table.{view_at};
-ghost use Rattle.host_core.specs.Seen.{hosted};
+ghost use Rattle.host_core.specs.CoreState.{hosted};
 ghost use Rattle.host_recovery.specs.Answers.{IsShown};
 
 use crate::answers::AskError;
@@ -26,7 +27,7 @@ impl<D: Disk, M: Machine> Host<D, M> {
     /// it tells a prover so.
     pub fn keeps(&self)
         ensures images { IsTrue D.tells → (items : List Item) → StandsAt M.decides D.view M.cells self.now items
-            → (image : Image) → MayLeave (D.view self.now.disk) image → StandsFor M.decides self.now.parts.name image items }
+            → (image : Image) → MayLeave (D.view self.now.disk) image → StandsFor (hosted_form M.decides) self.now.parts.name image items }
         ensures empty { IsTrue D.tells → (items : List Item) → StandsAt M.decides D.view M.cells self.now items → IsEmptyWhereNone (D.view self.now.disk) self.now.parts.name }
         ensures last { (items : List Item) → StandsAt M.decides D.view M.cells self.now items → (hosted M.cells self.now.core).last ≡ length items }
         ensures layout { IsTrue D.tells → (items : List Item) → StandsAt M.decides D.view M.cells self.now items

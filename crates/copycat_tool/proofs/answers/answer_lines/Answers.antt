@@ -4,7 +4,7 @@ use Rattle.copycat_tool.specs.declared.ending.Ending.{Ending}
 use Rattle.copycat_tool.specs.declared.reader.Piece.{Piece}
 use Rattle.copycat_tool.specs.declared.reader.Piece.TheVariants.{Line}
 use Rattle.copycat_tool.specs.declared.reader.ReadError.{ReadError}
-use Rattle.copycat_tool.specs.Reading.{Finds, IsLineWithin}
+use Rattle.copycat_tool.specs.Pieces.{Finds, IsLineWithin}
 use Rattle.copycat_tool.specs.Turning.{ended_by, goes_on}
 use Rattle.copycat_tool.proofs.Keeping.{keeps_first, keeps_further}
 use Rattle.copycat_tool.proofs.LoopLemmas.{met_first, memory_exit, long_exit, above_exit, broken_exit, last_exit, line_exit, after_turn}

@@ -4,8 +4,8 @@ use Rattle.std.specs.Bool.{IsTrue}
 use Rattle.script_io.specs.Streams.{Rose}
 use Rattle.copycat_tool.specs.Report.{Run}
 use Rattle.copycat_tool.specs.Runs.{Files}
-use Rattle.copycat_tool.specs.Standing.{IsAt}
-use Rattle.copycat_tool.specs.Taking.{HasClients}
+use Rattle.copycat_tool.specs.RunStanding.{IsAt}
+use Rattle.copycat_tool.specs.ClientTakes.{HasClients}
 use Rattle.copycat_tool.specs.Turning.{KeepsRun, goes_on}
 use Rattle.copycat_tool.proofs.LoopLemmas.{Met}
 use Rattle.copycat_tool.proofs.answers.answer_lines.Given as goal

@@ -1,11 +1,11 @@
 use Rattle.std.proofs.Common.{Result, length, sym, subst}
 use Rattle.std.specs.Prelude.{IfOk, IfErr}
 use Rattle.resource_catalog.specs.Catalog.{catalog_decision}
-use Rattle.copycat_tool.specs.Calls.{HasFewer, IsExpiring, change_of}
+use Rattle.copycat_tool.specs.HostCalls.{HasFewer, IsExpiring, change_of}
 use Rattle.copycat_tool.specs.declared.calls.Expiring.{Expiring}
 use Rattle.copycat_tool.specs.declared.ending.Ending.{Ending}
 use Rattle.copycat_tool.specs.Report.{expiry}
-use Rattle.copycat_tool.specs.Standing.{IsCut}
+use Rattle.copycat_tool.specs.RunStanding.{IsCut}
 use Rattle.copycat_tool.proofs.CallLemmas.{Keeps, expiry_answered, expiry_cut, told_fewer}
 use Rattle.copycat_tool.proofs.calls.expire_next.Goals as goal
 

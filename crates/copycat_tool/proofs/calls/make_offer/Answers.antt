@@ -2,10 +2,10 @@ use Rattle.std.proofs.Common.{Result, sym, subst}
 use Rattle.std.specs.Prelude.{IfOk, IfErr}
 use Rattle.script_text.specs.declared.printed.Printed.{Printed}
 use Rattle.resource_catalog.specs.Catalog.{catalog_decision}
-use Rattle.copycat_tool.specs.Calls.{IsTold}
+use Rattle.copycat_tool.specs.HostCalls.{IsTold}
 use Rattle.copycat_tool.specs.declared.ending.Ending.{Ending}
 use Rattle.copycat_tool.specs.Report.{admission, answer_by}
-use Rattle.copycat_tool.specs.Standing.{IsCut}
+use Rattle.copycat_tool.specs.RunStanding.{IsCut}
 use Rattle.copycat_tool.proofs.CallLemmas.{Keeps, offer_answered, offer_cut}
 use Rattle.copycat_tool.proofs.calls.make_offer.Goals as goal
 

@@ -6,10 +6,10 @@ use Rattle.script_text.specs.declared.printed.Printed.TheVariants as prints
 use Rattle.resource_catalog.specs.Catalog.{catalog_decision}
 use Rattle.copycat_tool.specs.declared.ending.Ending.{Ending}
 use Rattle.copycat_tool.specs.declared.ending.Ending.TheVariants.{DiskFault, NoMemory}
-use Rattle.copycat_tool.specs.Calls.{IsTold}
+use Rattle.copycat_tool.specs.HostCalls.{IsTold}
 use Rattle.copycat_tool.specs.Endings.{ending_of}
 use Rattle.copycat_tool.specs.Report.{Reopens, reopening}
-use Rattle.copycat_tool.specs.Standing.{IsCut}
+use Rattle.copycat_tool.specs.RunStanding.{IsCut}
 use Rattle.copycat_tool.proofs.CallLemmas.{Keeps, reopened, reopen_cut}
 use Rattle.copycat_tool.proofs.calls.reopen.Goals as goal
 

@@ -1,4 +1,4 @@
-use Rattle.std.proofs.Common.{◌≡◌, ◌∙◌, take, ap, sym, subst}
+use Rattle.std.proofs.Common.{◌∙◌, take, ap, sym, subst}
 use Rattle.log_model.specs.hosted.Hosted.{Hosted, machine_cells}
 use Rattle.log_model.specs.plain.Step.{folded}
 use Rattle.log_model.specs.replay.Telling.{ShowsState}
@@ -13,9 +13,9 @@ returns-in-Ok g c = λ t log least order.
     let law = c.plain_machines_are_plain.ensures catalog_decision c.catalog_is_plain.ensures in
     let name = c.args.name.now in
     let h = c.in-Ok.host in
-    let o = c.in-Ok.ensures.stands t log least (to_hosted law name log least order.logged (g.D.Disk.view c.args.disk) order) in
+    let o = c.in-Ok.ensures.stands t log least (to_hosted law name log least order.log (g.D.Disk.view c.args.disk) order) in
     let items = take o.count log in
-    let logged = logged_front o.count log order.logged in
+    let logged = logged_front o.count log order.log in
     let model = as_model law items logged in
     let state = o.stands.state ∙ model.same_fold in
     record {

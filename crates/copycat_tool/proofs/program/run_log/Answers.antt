@@ -1,20 +1,12 @@
-use Rattle.std.proofs.Common.{◌≡◌, ◌<◌, ◌≤◌, ℕ, inl, inr, take, refl, sym, ap, subst, ◌∙◌, List, Option, Some, Err, arith}
-use Rattle.disk_model.specs.Image.{Image}
-use Rattle.disk_model.proofs.Moments.{went_on}
+use Rattle.std.proofs.Common.{◌<◌, inl, inr, take, refl, sym, ap, subst, ◌∙◌, List, Some, Err, arith}
 use Rattle.script_io.specs.Streams.{Rose}
-use Rattle.segment_set.specs.declared.opening.OpenError.{OpenError}
-use Rattle.segment_set.specs.declared.opening.OpenError.TheVariants as errors
 use Rattle.segment_set.specs.Opening.{id_from}
 use Rattle.host_recovery.specs.Standing.{layout_in}
 use Rattle.resource_catalog.specs.Catalog.{catalog_decision}
-use Rattle.copycat_tool.specs.declared.ending.Ending.{Ending}
-use Rattle.copycat_tool.specs.declared.ending.Ending.TheVariants.{DiskFault, Damaged}
-use Rattle.copycat_tool.specs.Closing.{EndsRun, HasCauses}
-use Rattle.copycat_tool.specs.Endings.{ending_of}
-use Rattle.copycat_tool.specs.Programs.{IsUnopened, RunsInOrder}
+use Rattle.copycat_tool.specs.Programs.{RunsInOrder}
 use Rattle.copycat_tool.specs.Report.{Run}
-use Rattle.copycat_tool.specs.Runs.{Files, HasPrefix, RanSo}
-use Rattle.copycat_tool.specs.Standing.{IsAt}
+use Rattle.copycat_tool.specs.Runs.{Files}
+use Rattle.copycat_tool.specs.RunStanding.{IsAt}
 use Rattle.log_model.specs.hosted.Hosted.{Hosted}
 use Rattle.log_model.specs.plain.Step.{folded}
 use Rattle.log_model.specs.serving.Positions.{Position, acked_positions}
@@ -33,15 +25,15 @@ returns-in-Ok-clause-ran g c = λ t log least order bytes left.
     let h = c.in-Ok.host in
     let v = g.D.Disk.view c.args.disk in
     let m = g.D.Disk.view h.disk in
-    let hosted = to_hosted law name log least order.logged v order in
+    let hosted = to_hosted law name log least order.log v order in
     let o = c.in-Ok.ensures.stands t log least hosted in
-    let logged = logged_front o.count log order.logged in
+    let logged = logged_front o.count log order.log in
     let acked : List Position = acked_positions (folded (take o.count log)).sessions in
     let run : Run = record { log = take o.count log; layout = layout_in m h.parts; confirmed = acked; clients = acked } in
     let confirmed = c.in-Ok.ensures.confirmed ∙ ap (λ (s : Hosted). acked_positions s.sessions) (o.stands.state ∙ (as_model law (take o.count log) logged).same_fold) in
     let keeps : Keeps g.D.Disk.view h = record { images = c.keeps.ensures.images t; empty = c.keeps.ensures.empty t; last = c.keeps.ensures.last; layout = c.keeps.ensures.layout t; file = c.keeps.ensures.file t } in
     let at : IsAt g.D.Disk.view files h run = is_at law g.D.Disk.view files h keeps (g.met.D.Disk.sound h.disk t) run c.in-Ok.ensures.name.0 c.in-Ok.ensures.name.1 o.stands logged refl confirmed in
-    let opening = left_plain law name log least order.logged v m (c.in-Ok.ensures.any_moment t log least hosted) in
+    let opening = left_plain law name log least order.log v m (c.in-Ok.ensures.any_moment t log least hosted) in
     let P : g.row.D.Denot → Type 0 = λ d. RunsInOrder files log least bytes (g.I.Source.left c.run_script-status.new.script) v (g.D.Disk.view d) (g.O.Sink.written c.args.out.now) (g.O.Sink.written c.run_script-status.new.out) c.run_script-status.result.0
     (Rose (g.I.Source.faults c.args.script.now) (g.I.Source.faults c.run_script-status.new.script)) (g.D.Disk.faults c.args.disk < g.D.Disk.faults d) in
     let closed = c.run_script-status.ensures.ran t files run at refl bytes left in
@@ -65,8 +57,8 @@ returns-in-Err-clause-ran g c = λ t log least order bytes left.
     let name = c.args.name.now in
     let v = g.D.Disk.view c.args.disk in
     let w = g.D.Disk.view c.in-Err.disk in
-    let hosted = to_hosted law name log least order.logged v order in
-    let moments = left_plain law name log least order.logged v w (c.in-Err.ensures.any_moment t log least hosted) in
+    let hosted = to_hosted law name log least order.log v order in
+    let moments = left_plain law name log least order.log v w (c.in-Err.ensures.any_moment t log least hosted) in
     let e = c.close_run.ensures.ends in
     record {
       text = e.text;
@@ -75,7 +67,7 @@ returns-in-Err-clause-ran g c = λ t log least order bytes left.
         unopened = stays_unopened name (Some bytes) _ v _ _ (unopened_of name v _ c.in-Err.error _ c.of_opening.ensures (λ is. c.in-Err.ensures.cause.failed (ap Err is)) (λ base generation at is. (c.in-Err.ensures.damaged base generation at (ap Err is) t).0))
             _ _ _ _ _ e left;
         any_moment = moments;
-        at_exit = still_in_order law name log least order.logged v w (g.met.D.Disk.sound c.in-Err.disk t) moments (c.in-Err.ensures.empty t order.empty);
+        at_exit = still_in_order law name log least order.log v w (g.met.D.Disk.sound c.in-Err.disk t) moments (c.in-Err.ensures.empty t order.empty);
       });
     }
 

@@ -1,6 +1,6 @@
 use Rattle.std.proofs.Common.{◌∙◌, subst}
 use Rattle.copycat_tool.specs.declared.taking.Next.{Next}
-use Rattle.copycat_tool.specs.Taking.{HasNext}
+use Rattle.copycat_tool.specs.ClientTakes.{HasNext}
 use Rattle.copycat_tool.proofs.TakeAnswers.{closed_answered, closed_clients, missed_answered, missed_clients, nothing_answered, nothing_clients, taken_answered, taken_clients}
 use Rattle.copycat_tool.proofs.taking.answer_take.Goals as goal
 

@@ -3,8 +3,8 @@ use Rattle.std.proofs.Common.{◌≡◌}
 use Rattle.std.specs.Bool.{IsTrue}
 use Rattle.copycat_tool.specs.Report.{Run}
 use Rattle.copycat_tool.specs.Runs.{Files}
-use Rattle.copycat_tool.specs.Standing.{IsAt}
-use Rattle.copycat_tool.specs.Taking.{IsStill}
+use Rattle.copycat_tool.specs.RunStanding.{IsAt}
+use Rattle.copycat_tool.specs.ClientTakes.{IsStill}
 use Rattle.copycat_tool.proofs.TakingLemmas.{Known, left_of}
 use Rattle.copycat_tool.proofs.taking.next_for.Given as goal
 

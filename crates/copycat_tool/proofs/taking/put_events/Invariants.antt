@@ -3,7 +3,7 @@ use Rattle.std.proofs.Common.{◌≤◌, take}
 use Rattle.event_batches.specs.Kept.{as_batch}
 use Rattle.copycat_tool.specs.Report.{printed_lines}
 use Rattle.copycat_tool.specs.Runs.{Wrote}
-use Rattle.copycat_tool.specs.Taking.{event_lines}
+use Rattle.copycat_tool.specs.ClientTakes.{event_lines}
 use Rattle.copycat_tool.proofs.taking.put_events.Given as goal
 
 abbrev pub invariant-loop-place : goal.invariant-loop-place

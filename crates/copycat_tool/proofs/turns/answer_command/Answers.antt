@@ -3,7 +3,7 @@ use Rattle.std.specs.Prelude.{OnOk}
 use Rattle.copycat_tool.specs.declared.lines.Command.{Command}
 use Rattle.copycat_tool.specs.declared.clients.Clients.{Clients}
 use Rattle.copycat_tool.specs.Report.{Run, after, answers_to, quiet_answer}
-use Rattle.copycat_tool.specs.Taking.{HasClients}
+use Rattle.copycat_tool.specs.ClientTakes.{HasClients}
 use Rattle.copycat_tool.specs.Turning.{Answers, HasAnswered}
 use Rattle.copycat_tool.proofs.Staying.{is_take, still_has}
 use Rattle.copycat_tool.proofs.TurnLemmas.{looked, nothing_answered, put_told}

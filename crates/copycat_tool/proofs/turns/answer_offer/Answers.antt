@@ -5,7 +5,7 @@ use Rattle.copycat_tool.proofs.turns.answer_offer.Goals as goal
 pub returns-in-Ok-clause-answers : goal.returns-in-Ok-clause-answers
 returns-in-Ok-clause-answers g c = λ t files run at.
     put_told g.D.Disk.view files c.args.host.now c.make_offer.new.host run (answer_by (admission run c.args.one.now) run c.args.one.now) (g.O.Sink.written c.args.out.now) (g.O.Sink.written c.put_answer.new.out) _ _
-    c.in-Ok.answer (c.in-Ok.ensures.answered t files run at) c.put_answer.result c.put_answer.ensures.put
+    c.in-Ok.told (c.in-Ok.ensures.answered t files run at) c.put_answer.result c.put_answer.ensures.put
 
 pub returns-in-Err-clause-answers : goal.returns-in-Err-clause-answers
 returns-in-Err-clause-answers g c = λ t files run at.

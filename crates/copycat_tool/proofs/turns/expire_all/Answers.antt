@@ -1,7 +1,7 @@
 use Rattle.std.proofs.Common.{Option, Some, None, Result, Ok, Err, subst}
 use Rattle.script_text.specs.declared.printed.Printed.TheVariants as prints
 use Rattle.copycat_tool.specs.declared.calls.Expiring.{Expiring}
-use Rattle.copycat_tool.specs.Calls.{IsExpiring}
+use Rattle.copycat_tool.specs.HostCalls.{IsExpiring}
 use Rattle.copycat_tool.specs.Report.{after, expired_answer}
 use Rattle.copycat_tool.specs.Turning.{goes_on}
 use Rattle.copycat_tool.proofs.ExpiringLemmas.{SoFar, at_end, ended_here, expired_as, failed, first, one_more}

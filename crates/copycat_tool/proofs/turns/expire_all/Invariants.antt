@@ -4,7 +4,7 @@ use Rattle.std.specs.Bool.{IsTrue}
 use Rattle.copycat_tool.specs.declared.ending.Ending.{Ending}
 use Rattle.copycat_tool.specs.Report.{Run}
 use Rattle.copycat_tool.specs.Runs.{Files}
-use Rattle.copycat_tool.specs.Standing.{IsAt}
+use Rattle.copycat_tool.specs.RunStanding.{IsAt}
 use Rattle.copycat_tool.specs.Turning.{KeepsRun, goes_on}
 use Rattle.copycat_tool.proofs.ExpiringLemmas.{SoFar}
 use Rattle.copycat_tool.proofs.turns.expire_all.Given as goal

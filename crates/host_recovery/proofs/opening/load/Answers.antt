@@ -2,7 +2,7 @@ use Rattle.std.proofs.Common.{ℕ, sym, ap, subst, ◌∙◌}
 use Rattle.segment_files.specs.Contents.{AreNumbered}
 use Rattle.log_model.specs.hosted.Hosted.{Hosted, hosted_told}
 use Rattle.log_model.specs.replay.Replay.{replay_from, replayed}
-use Rattle.host_core.specs.Seen.{hosted}
+use Rattle.host_core.specs.CoreState.{hosted}
 use Rattle.host_recovery.proofs.Openings.{ends_with}
 use Rattle.host_recovery.proofs.opening.load.Goals as goal
 

@@ -3,7 +3,7 @@ use Rattle.std.specs.Vec.Iter.{into_iter_items}
 use Rattle.segment_files.specs.Contents.{AreNumbered}
 use Rattle.log_model.specs.hosted.Hosted.{Hosted, hosted_told}
 use Rattle.log_model.specs.replay.Replay.{replay_from}
-use Rattle.host_core.specs.Seen.{hosted}
+use Rattle.host_core.specs.CoreState.{hosted}
 use Rattle.host_recovery.proofs.Openings.{none_left}
 use Rattle.host_recovery.proofs.opening.replay_all.Goals as goal
 

@@ -4,7 +4,7 @@ use Rattle.segment_files.specs.Contents.{AreNumbered}
 use Rattle.log_model.specs.hosted.Hosted.{hosted_told}
 use Rattle.log_model.specs.replay.Replay.{replay_from}
 use Rattle.session_table.specs.Table.{ConfirmsAcked}
-use Rattle.host_core.specs.Seen.{hosted}
+use Rattle.host_core.specs.CoreState.{hosted}
 use Rattle.host_recovery.proofs.opening.replay_all.Given as goal
 
 abbrev pub invariant-loop-index : goal.invariant-loop-index

@@ -3,7 +3,7 @@ use Rattle.std.proofs.Common.{◌≡◌, ℕ, ◌==◌, false}
 use Rattle.std.specs.List.{list_any}
 use Rattle.std.specs.Vec.Iter.{into_iter_items}
 use Rattle.log_model.specs.serving.Positions.{acked_positions, event_at}
-use Rattle.copycat_tool.specs.Taking.{client_of}
+use Rattle.copycat_tool.specs.ClientTakes.{client_of}
 use Rattle.copycat_tool.proofs.clients.Clients.of_opened.Given as goal
 
 abbrev pub invariant-loop-id : goal.invariant-loop-id

@@ -1,7 +1,7 @@
 -- So far more was taken, to the end of what is held, and there is no line feed in what was searched.
 use Rattle.std.proofs.Common.{◌≡◌, ℕ, ◌+◌, ◌-◌, ◌≤◌, false, List, length, take, Some}
 use Rattle.copycat_tool.specs.Script.{has_feed}
-use Rattle.copycat_tool.specs.Reading.{TakesMore}
+use Rattle.copycat_tool.specs.Pieces.{TakesMore}
 use Rattle.copycat_tool.proofs.reader.LineReader.next_piece.Given as goal
 
 abbrev pub invariant-loop-piece : goal.invariant-loop-piece

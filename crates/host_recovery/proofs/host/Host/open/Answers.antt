@@ -5,8 +5,8 @@ use Rattle.segment_set.specs.declared.opening.OpenError.TheVariants.{Damaged as 
 use Rattle.segment_set.specs.Fits.{Fits, IsHeld, parts_in}
 use Rattle.log_model.specs.hosted.Hosted.{hosted_stored, hosted_told}
 use Rattle.log_model.specs.replay.Replay.{replayed}
-use Rattle.host_core.specs.Seen.{hosted}
-use Rattle.host_recovery.specs.Opening.{HasPrefix, IsInOrder}
+use Rattle.host_core.specs.CoreState.{hosted}
+use Rattle.host_recovery.specs.Logs.{HasPrefix, IsInOrder, hosted_form}
 use Rattle.host_recovery.proofs.Laying.{lies_so, none_at_fault}
 use Rattle.host_recovery.proofs.Openings.{entries_prefix, items_prefix, opens_at}
 use Rattle.host_recovery.proofs.host.Host.open.Goals as goal
@@ -16,7 +16,7 @@ returns-in-Ok-clause-stands g c = λ t items least order.
     let name = c.in-Ok.ensures.name in
     opens_at g.M.Machine.decides g.D.Disk.view g.M.Machine.cells (g.D.Disk.view c.args.disk) (record { disk = c.load.new.disk; parts = c.in-Ok.parts; core = c.load.new.core; size = c.args.segment; stopped = false }) items least
     g.met.M.Machine.lawful g.met.M.Machine.one_owner (g.met.D.Disk.sound c.args.disk t)
-    (subst (λ (n : List ℕ). IsInOrder g.M.Machine.decides (g.D.Disk.view c.args.disk) n items least) (sym name) order) refl
+    (subst (λ (n : List ℕ). IsInOrder (hosted_form g.M.Machine.decides) (g.D.Disk.view c.args.disk) n items least) (sym name) order) refl
     (subst (λ (n : List ℕ). Fits (g.D.Disk.view c.load.new.disk) n c.in-Ok.parts.tail c.in-Ok.parts.greatest) (sym name) (c.in-Ok.ensures.fits t))
     (subst (λ (n : List ℕ). IsChoice (folder n (g.D.Disk.view c.args.disk).reading) (parts_in (g.D.Disk.view c.load.new.disk).reading n c.in-Ok.parts.tail)) (sym name) (c.in-Ok.ensures.choice t))
     (subst (λ (n : List ℕ). IsHeld (g.D.Disk.view c.load.new.disk) n c.in-Ok.parts.tail) (sym name) (c.in-Ok.ensures.held t order.empty))
@@ -25,14 +25,14 @@ returns-in-Ok-clause-stands g c = λ t items least order.
 pub returns-in-Ok-clause-any_moment : goal.returns-in-Ok-clause-any_moment
 returns-in-Ok-clause-any_moment g c = λ t items least order.
     let d = g.M.Machine.decides in
-    weaker (g.D.Disk.view c.args.disk) (g.D.Disk.view c.load.new.disk) (StandsForPrefix c.args.name.now (hosted_stored d items) least) (HasPrefix d c.args.name.now items least)
+    weaker (g.D.Disk.view c.args.disk) (g.D.Disk.view c.load.new.disk) (StandsForPrefix c.args.name.now (hosted_stored d items) least) (HasPrefix (hosted_form d) c.args.name.now items least)
     (c.load.ensures.any_moment t (hosted_stored d items) least (λ image may. entries_prefix d c.args.name.now items least image (order.each image may)))
     (λ image has. items_prefix d c.args.name.now items least image has)
 
 pub returns-in-Err-clause-any_moment : goal.returns-in-Err-clause-any_moment
 returns-in-Err-clause-any_moment g c = λ t items least order.
     let d = g.M.Machine.decides in
-    weaker (g.D.Disk.view c.args.disk) (g.D.Disk.view c.load.new.disk) (StandsForPrefix c.args.name.now (hosted_stored d items) least) (HasPrefix d c.args.name.now items least)
+    weaker (g.D.Disk.view c.args.disk) (g.D.Disk.view c.load.new.disk) (StandsForPrefix c.args.name.now (hosted_stored d items) least) (HasPrefix (hosted_form d) c.args.name.now items least)
     (c.load.ensures.any_moment t (hosted_stored d items) least (λ image may. entries_prefix d c.args.name.now items least image (order.each image may)))
     (λ image has. items_prefix d c.args.name.now items least image has)
 

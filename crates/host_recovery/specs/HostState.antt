@@ -3,18 +3,18 @@
 use Rattle.std.specs.Prelude.{ℕ, Bool, refl}
 use Rattle.std.specs.Coded.{Coded, code_by, coded×, coded_ℕ, coded_bool}
 use Rattle.segment_set.specs.declared.parts.Parts.{Parts}
-use Rattle.host_core.specs.Seen.{Seen as InCore}
+use Rattle.host_core.specs.CoreState.{CoreState}
 
-pub record Seen (D M : Type 0) : Type 0 where
+pub record HostState (D M : Type 0) : Type 0 where
   pub disk : D
   pub parts : Parts
-  pub core : InCore M
+  pub core : CoreState M
   pub size : ℕ
   pub stopped : Bool
 
-abbrev pub seen_code : {D M : Type 0} → Coded D → Coded Parts → Coded (InCore M) → Coded (Seen D M)
-seen_code {D} {M} disk parts core =
-    code_by (D × (Parts × (InCore M × (ℕ × Bool)))) (coded× disk (coded× parts (coded× core (coded× coded_ℕ coded_bool))))
+abbrev pub host_code : {D M : Type 0} → Coded D → Coded Parts → Coded (CoreState M) → Coded (HostState D M)
+host_code {D} {M} disk parts core =
+    code_by (D × (Parts × (CoreState M × (ℕ × Bool)))) (coded× disk (coded× parts (coded× core (coded× coded_ℕ coded_bool))))
     (λ h. (h.disk, (h.parts, (h.core, (h.size, h.stopped)))))
     (λ p. record { disk = p.0; parts = p.1.0; core = p.1.1.0; size = p.1.1.1.0; stopped = p.1.1.1.1 })
     (λ _. refl)

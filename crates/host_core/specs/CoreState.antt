@@ -14,28 +14,28 @@ use Rattle.log_model.specs.hosted.Sound.{IsSound}
 use Rattle.host_core.specs.Batching.{AreBatchesOf, Batches, HaveBatchRoom, ended_by, told_above, told_by}
 use Rattle.host_core.specs.Entering.{HasRoomFor}
 
-pub record Seen (M : Type 0) : Type 0 where
+pub record CoreState (M : Type 0) : Type 0 where
   pub machine : M
   pub sessions : Table
   pub lender : Lent
   pub last : ℕ
   pub time : ℕ
 
-abbrev pub seen_code : {M : Type 0} → Coded M → Coded Table → Coded (Seen M)
-seen_code {M} code table_code =
+abbrev pub core_code : {M : Type 0} → Coded M → Coded Table → Coded (CoreState M)
+core_code {M} code table_code =
     code_by (M × (Table × (Lent × (ℕ × ℕ)))) (coded× code (coded× table_code (coded× lent_code (coded× coded_ℕ coded_ℕ))))
     (λ s. (s.machine, (s.sessions, (s.lender, (s.last, s.time)))))
     (λ p. record { machine = p.0; sessions = p.1.0; lender = p.1.1.0; last = p.1.1.1.0; time = p.1.1.1.1 })
     (λ _. refl)
 
 -- the state that it stands at, where this is what a machine's cells are
-abbrev pub hosted : {M : Type 0} → (M → Cells) → Seen M → Hosted
+abbrev pub hosted : {M : Type 0} → (M → Cells) → CoreState M → Hosted
 hosted cells s = record { last = s.last; now = s.time; sessions = s.sessions.sessions; cells = cells s.machine ++ table_cells s.sessions }
 
 -- ---- what a core keeps
 
 -- The state is a host's; its cells are the machine's and those of the sessions; and exactly what holds a cell is out at the lender.
-pub record IsKept {M : Type 0} (cells : M → Cells) (s : Seen M) : Type 0 where
+pub record IsKept {M : Type 0} (cells : M → Cells) (s : CoreState M) : Type 0 where
   pub sound : IsSound (hosted cells s)
   pub machine : machine_cells (hosted cells s).cells ≡ cells s.machine
   pub sessions : session_cells (hosted cells s).cells ≡ table_cells s.sessions
@@ -46,7 +46,7 @@ pub record IsKept {M : Type 0} (cells : M → Cells) (s : Seen M) : Type 0 where
 
 -- There is room for the commit of one more entry, and for all that it puts, where this says what a machine is ready for. These are the
 -- batches that the entry makes above the cut, and there is room for each.
-pub record IsPrepared {M : Type 0} (cells : M → Cells) (ready : M → Effect → ℕ → Type 0) (d : MachineDecision) (s : Seen M) (cut index : ℕ) (body : Body) (batches : Batches) : Type 0 where
+pub record IsPrepared {M : Type 0} (cells : M → Cells) (ready : M → Effect → ℕ → Type 0) (d : MachineDecision) (s : CoreState M) (cut index : ℕ) (body : Body) (batches : Batches) : Type 0 where
   pub commit : 1 ≤ s.lender.spare
   pub entry : HasRoomFor (ready s.machine) s.sessions index body
   pub batches_are : AreBatchesOf (told_above cut index (told_by d (cells s.machine) index body)) (ended_by body) s.sessions.sessions batches

@@ -6,7 +6,7 @@ use Rattle.script_text.specs.declared.printed.Printed.{Printed}
 use Rattle.script_text.specs.declared.printed.Printed.TheVariants as prints
 use Rattle.script_text.specs.Printing.{printed_text}
 use Rattle.log_model.specs.plain.Admission.{Expired, Expiry, Expires, Nobody, Not_now}
-use Rattle.host_recovery.specs.Seen.{Seen}
+use Rattle.host_recovery.specs.HostState.{HostState}
 use Rattle.host_recovery.specs.declared.answers.Answer.{Answer as HostAnswer}
 use Rattle.host_recovery.specs.declared.answers.Answer.TheVariants as answers
 use Rattle.host_recovery.specs.declared.answers.HostError.{HostError}
@@ -18,7 +18,7 @@ use Rattle.copycat_tool.specs.declared.ending.Ending.{Ending}
 use Rattle.copycat_tool.specs.declared.ending.Ending.TheVariants.{DiskFault, NoMemory}
 use Rattle.copycat_tool.specs.Report.{Run, Act, Change, Nothing, Stores, expiry, expired_answer}
 use Rattle.copycat_tool.specs.Runs.{Files}
-use Rattle.copycat_tool.specs.Standing.{IsMade}
+use Rattle.copycat_tool.specs.RunStanding.{IsMade}
 
 -- ---- what is printed
 
@@ -55,7 +55,7 @@ expiry_told (Err error) = refused_expiry (error_told error)
 -- ---- what an answer means
 
 -- its one line is printed, and what it tells was done
-pub record IsTold {D : Type 0} (view : D → View) (files : Files) (old new : Seen D Parts) (run : Run) (this : Act) (printed : Printed) : Type 0 where
+pub record IsTold {D : Type 0} (view : D → View) (files : Files) (old new : HostState D Parts) (run : Run) (this : Act) (printed : Printed) : Type 0 where
   pub line_is : this.lines ≡ printed_text printed ∷ []
   pub made : IsMade view files old new run this
 
@@ -65,7 +65,7 @@ change_of (Expires session) time = Stores (Expired time session ∷ [])
 change_of _ time = Nothing
 
 -- the session that expires, or why nobody does
-abbrev pub IsExpiring : {D : Type 0} → (D → View) → Files → Seen D Parts → Seen D Parts → Run → ℕ → Expiring → Type 0
+abbrev pub IsExpiring : {D : Type 0} → (D → View) → Files → HostState D Parts → HostState D Parts → Run → ℕ → Expiring → Type 0
 IsExpiring view files old new run time (expirings.Session index session) = (expiry run time ≡ Expires session) × IsTold view files old new run (expired_answer run time session) (prints.Expired index session)
 IsExpiring view files old new run time expirings.Nobody = (expiry run time ≡ Nobody) × (new ≡ old)
 IsExpiring view files old new run time (expirings.Refused why) = (expiry run time ≡ Not_now why) × (new ≡ old)

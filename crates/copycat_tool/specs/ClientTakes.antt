@@ -11,10 +11,11 @@ use Rattle.log_model.specs.plain.Plain.{Session, session_of}
 use Rattle.log_model.specs.plain.Step.{folded}
 use Rattle.log_model.specs.serving.Batches.{Batch, Served, Taken, Nothing_new, Takes, Misses, batches, serve, take_batch}
 use Rattle.log_model.specs.serving.Serving.{IsOneOf}
+use Rattle.log_model.specs.serving.Positions.{moved_to, position_changed}
 use Rattle.session_table.specs.Asked.{batch_at}
-use Rattle.session_table.specs.Table.{Table, beside_changed, beside_confirmed, confirmed_of}
-use Rattle.host_core.specs.Seen.{hosted}
-use Rattle.host_recovery.specs.Seen.{Seen}
+use Rattle.session_table.specs.Table.{Table, confirmed_of, confirmed_positions}
+use Rattle.host_core.specs.CoreState.{hosted}
+use Rattle.host_recovery.specs.HostState.{HostState}
 use Rattle.resource_catalog.specs.Parts.{Parts, cells_of}
 use Rattle.copycat_tool.specs.declared.clients.Clients.{Clients}
 use Rattle.copycat_tool.specs.declared.ending.Ending.{Ending}
@@ -23,7 +24,7 @@ use Rattle.copycat_tool.specs.declared.taking.Next.{Next}
 use Rattle.copycat_tool.specs.declared.taking.Next.TheVariants as nexts
 use Rattle.copycat_tool.specs.Report.{Run, Confirms, changed, client_at, offers, printed_lines}
 use Rattle.copycat_tool.specs.Runs.{Files, Wrote}
-use Rattle.copycat_tool.specs.Standing.{IsAt}
+use Rattle.copycat_tool.specs.RunStanding.{IsAt}
 
 -- ---- clients
 
@@ -42,20 +43,20 @@ HasClients run clients = (id : ℕ) → client_of clients id ≡ client_at run i
 -- ---- what comes for a client
 
 -- a host is as before, but for what its sessions have confirmed
-pub record IsStill {D M : Type 0} (old new : Seen D M) : Type 0 where
+pub record IsStill {D M : Type 0} (old new : HostState D M) : Type 0 where
   pub disk : new.disk ≡ old.disk
   pub parts : new.parts ≡ old.parts
   pub size : new.size ≡ old.size
   pub stopped : new.stopped ≡ old.stopped
 
 -- this event of a session was confirmed
-pub record IsConfirmed {D : Type 0} (session event : ℕ) (old new : Seen D Parts) : Type 0 where
+pub record IsConfirmed {D : Type 0} (session event : ℕ) (old new : HostState D Parts) : Type 0 where
   pub state : hosted cells_of new.core ≡ hosted cells_of old.core
-  pub beside : new.core.sessions.beside ≡ beside_changed session (beside_confirmed event) old.core.sessions.beside
+  pub positions : confirmed_positions new.core.sessions.beside ≡ position_changed session (moved_to event) (confirmed_positions old.core.sessions.beside)
   pub event_is : confirmed_of session new.core.sessions ≡ event
 
 -- The client, which took `last` at last, has confirmed what it knew of what it was to be served, and this comes next.
-abbrev pub IsNext : Next → {D : Type 0} → ℕ → Seen D Parts → Run → ℕ → ℕ → List ℕ → Served → Type 0
+abbrev pub IsNext : Next → {D : Type 0} → ℕ → HostState D Parts → Run → ℕ → ℕ → List ℕ → Served → Type 0
 IsNext nexts.Nothing session new run last last' known served = served ≡ record { confirmed = known; turn = Nothing_new }
 IsNext nexts.Taken session new run last last' known served =
     (b : Batch) × (served ≡ record { confirmed = known ++ b.index ∷ []; turn = Takes b }) × (batch_at session new.core.sessions ≡ Some b) × (last' ≡ b.index) × (take_batch last b ≡ Taken) × IsOneOf b (batches run.log session)
@@ -66,7 +67,7 @@ abbrev pub HasTaken : Next → ℕ → Table → ℕ → Type 0
 HasTaken nexts.Taken session t last = (b : Batch) × (batch_at session t ≡ Some b) × (b.index ≡ last)
 HasTaken _ session t last = Unit {0}
 
-pub record HasNext {D : Type 0} (view : D → View) (files : Files) (session : ℕ) (old new : Seen D Parts) (run : Run) (last last' : ℕ) (next : Next) : Type 0 where
+pub record HasNext {D : Type 0} (view : D → View) (files : Files) (session : ℕ) (old new : HostState D Parts) (run : Run) (last last' : ℕ) (next : Next) : Type 0 where
   pub opened : Session
   pub is_open : session_of session (folded run.log) ≡ Some opened
   pub known : List ℕ
@@ -74,7 +75,7 @@ pub record HasNext {D : Type 0} (view : D → View) (files : Files) (session : �
   pub is : IsNext next session new run last last' known (serve last (offers run session opened))
 
 -- or the session isn't open
-abbrev pub Comes : {D : Type 0} → (D → View) → Files → ℕ → Seen D Parts → Seen D Parts → Run → ℕ → ℕ → {E : Type 0} → Result Next E → Type 0
+abbrev pub Comes : {D : Type 0} → (D → View) → Files → ℕ → HostState D Parts → HostState D Parts → Run → ℕ → ℕ → {E : Type 0} → Result Next E → Type 0
 Comes view files session old new run last last' (Ok next) = HasNext view files session old new run last last' next
 Comes view files session old new run last last' (Err none) = (session_of session (folded run.log) ≡ None) × IsAt view files new run
 
