@@ -10,7 +10,7 @@ use Rattle.segment_files.specs.Folder.{folder, AreOf, Stands}
 use Rattle.segment_set.specs.declared.tail.Tail.{Tail}
 use Rattle.segment_set.specs.declared.parts.Parts.{Parts}
 use Rattle.segment_set.specs.Growth.{grown, new_tail}
-use Rattle.segment_set.specs.Fits.{Fits, IsHeld, bare, log_of, parts_in, gained, first_id, frame_size, greatest_after}
+use Rattle.segment_set.specs.Fits.{FilesFit, IsTailHeld, bare, log_of, tail_parts, gained, first_id, frame_size, greatest_after}
 use Rattle.segment_set.proofs.AreLogs.{are_none, are_one}
 use Rattle.segment_set.proofs.Gaining.{whole_plain, list_at}
 use Rattle.log_model.specs.cleaning.Layout.{Layout, with_entry}
@@ -22,16 +22,16 @@ one_is v name tail p whole =
     subst (λ (l : List Entry). AreOf (p ∷ []) l) (sym (ap bare (append-nil p.entries)))
     (are_one tail.id p (whole_plain v name tail.id p whole) tail.base_is)
 
-pub parts_are : (v : View) (name : List ℕ) (tail : Option Tail) (greatest : ℕ) → Fits v name tail greatest → AreOf (parts_in v.reading name tail) (log_of (parts_in v.reading name tail))
+pub parts_are : (v : View) (name : List ℕ) (tail : Option Tail) (greatest : ℕ) → FilesFit v name tail greatest → AreOf (tail_parts v.reading name tail) (log_of (tail_parts v.reading name tail))
 parts_are v name None greatest fits = are_none
 parts_are v name (Some tail) greatest fits =
     let t = fits.tail_is in
     subst (λ (ps : List Part). AreOf ps (log_of ps)) (sym (list_at v name tail t.part t.whole)) (one_is v name tail t.part t.whole)
 
 -- what a crash leaves stands for the log that is shown
-pub stands_now : (v : View) (name : List ℕ) (tail : Option Tail) (greatest : ℕ) → Fits v name tail greatest → IsHeld v name tail → (image : Image) → MayLeave v image → Stands (folder name image) (log_of (parts_in v.reading name tail))
+pub stands_now : (v : View) (name : List ℕ) (tail : Option Tail) (greatest : ℕ) → FilesFit v name tail greatest → IsTailHeld v name tail → (image : Image) → MayLeave v image → Stands (folder name image) (log_of (tail_parts v.reading name tail))
 stands_now v name tail greatest fits held image may =
-    record { parts = parts_in v.reading name tail; choice = held image may; are = parts_are v name tail greatest fits }
+    record { parts = tail_parts v.reading name tail; choice = held image may; are = parts_are v name tail greatest fits }
 
 -- ---- one entry more
 
@@ -60,8 +60,8 @@ begins size greatest long id entry base generation =
     let last : id.base - 1 + 1 ≡ 1 = omega (arith, base) in
     λ i. (entry ∷ [], record { parts = record { base = base i; last = last i; present = 1 ∷ []; cut = 0; floor = 0; generation = generation i; size = size; rewritten = false } ∷ []; greatest = greatest + 1 })
 
-gains : (v : View) (name : List ℕ) (tail : Option Tail) (greatest size : ℕ) (entry : Entry) → Fits v name tail greatest
-    → shows (gained size greatest (parts_in v.reading name tail) entry) (greatest_after tail greatest) ≡ more size entry (shows (parts_in v.reading name tail) greatest)
+gains : (v : View) (name : List ℕ) (tail : Option Tail) (greatest size : ℕ) (entry : Entry) → FilesFit v name tail greatest
+    → shows (gained size greatest (tail_parts v.reading name tail) entry) (greatest_after tail greatest) ≡ more size entry (shows (tail_parts v.reading name tail) greatest)
 gains v name None greatest size entry fits = begins size greatest (frame_size 1 entry) (first_id (greatest + 1)) entry refl refl
 gains v name (Some tail) greatest size entry fits =
     let t = fits.tail_is in
@@ -69,12 +69,11 @@ gains v name (Some tail) greatest size entry fits =
     (grows size greatest (frame_size (t.part.last + 1) entry) t.part entry)
 
 -- what the files show once an entry was appended
-pub shows_more : (v w : View) (old new : Parts) (size : ℕ) (entry : Entry) → Fits v old.name old.tail old.greatest → new.name ≡ old.name
-    → parts_in w.reading old.name new.tail ≡ gained size old.greatest (parts_in v.reading old.name old.tail) entry → new.greatest ≡ greatest_after old.tail old.greatest
+pub shows_more : (v w : View) (old new : Parts) (size : ℕ) (entry : Entry) → FilesFit v old.name old.tail old.greatest
+    → tail_parts w.reading new.name new.tail ≡ gained size old.greatest (tail_parts v.reading old.name old.tail) entry → new.greatest ≡ greatest_after old.tail old.greatest
     → (log_in w new ≡ log_in v old ++ entry ∷ []) × (layout_in w new ≡ with_entry size (layout_in v old))
-shows_more v w old new size entry fits named parts greatest =
-    let all : shows (parts_in w.reading new.name new.tail) new.greatest ≡ more size entry (shows (parts_in v.reading old.name old.tail) old.greatest) =
-    ap (λ (n : List ℕ). shows (parts_in w.reading n new.tail) new.greatest) named
-    ∙ (λ i. shows (parts i) (greatest i))
+shows_more v w old new size entry fits parts greatest =
+    let all : shows (tail_parts w.reading new.name new.tail) new.greatest ≡ more size entry (shows (tail_parts v.reading old.name old.tail) old.greatest) =
+    (λ i. shows (parts i) (greatest i))
     ∙ gains v old.name old.tail old.greatest size entry fits in
     (ap (λ (x : List Entry × Layout). x.0) all, ap (λ (x : List Entry × Layout). x.1) all)

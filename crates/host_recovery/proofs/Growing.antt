@@ -18,7 +18,7 @@ use Rattle.disk_model.proofs.Moments.{started, weaker}
 use Rattle.host_types.specs.declared.entry.Offer.{Offer}
 use Rattle.segment_files.specs.Folder.{folder, Stands}
 use Rattle.segment_set.specs.declared.parts.Parts.{Parts}
-use Rattle.segment_set.specs.Fits.{Fits, IsHeld, StandsOrGains as FilesStandOrGain}
+use Rattle.segment_set.specs.Fits.{FilesFit, IsTailHeld, StandsOrGains as FilesStandOrGain}
 use Rattle.log_model.specs.plain.Admission.{Item, Expired, Expiry, Expires, Nobody, Not_now, Offered, due_in, expires_due, Admission, Admitted, Repeats, Refused, first_refusal}
 use Rattle.log_model.specs.plain.Fitting.{ItemFits, ItemsFit}
 use Rattle.log_model.specs.hosted.Hosted.{Hosted, hosted_admits, hosted_expires, hosted_entry, hosted_folded, hosted_stored, hosted_told, is_hosted_admitted, is_hosted_log}
@@ -49,7 +49,7 @@ module _ {D M : Type 0} (d : MachineDecision) (view : D → View) (cells : M →
   pub stands_more : (new : HostState D M) → MachineIsLawful d → StandsAt d view cells old items → ItemFits item → IsTrue (is_hosted_admitted d (hosted cells old.core) item)
       → entry ≡ hosted_entry d (hosted cells old.core) item → new.stopped ≡ false
       → hosted cells new.core ≡ replay_entry (hosted_told d) 0 (hosted cells old.core) ((hosted cells old.core).last + 1, entry)
-      → log_in (view new.disk) new.parts ≡ log_in (view old.disk) old.parts ++ entry ∷ [] → IsHeld (view new.disk) new.parts.name new.parts.tail
+      → log_in (view new.disk) new.parts ≡ log_in (view old.disk) old.parts ++ entry ∷ [] → IsTailHeld (view new.disk) new.parts.name new.parts.tail
       → StandsAt d view cells new (items ++ item ∷ [])
   stands_more new lawful at fit admitted is runs state log held =
       let g = grown d items item in
@@ -80,7 +80,7 @@ module _ {D M : Type 0} (d : MachineDecision) (view : D → View) (cells : M →
 
 -- what a crash leaves of a host where nothing is done
 pub stands_for : {D M : Type 0} (d : MachineDecision) (view : D → View) (cells : M → Cells) (h : HostState D M) (items : List Item) → StandsAt d view cells h items
-    → Fits (view h.disk) h.parts.name h.parts.tail h.parts.greatest → (c : Image) → MayLeave (view h.disk) c → StandsFor (hosted_form d) h.parts.name c items
+    → FilesFit (view h.disk) h.parts.name h.parts.tail h.parts.greatest → (c : Image) → MayLeave (view h.disk) c → StandsFor (hosted_form d) h.parts.name c items
 stands_for d view cells h items at fits c may =
     subst (λ (l : List Entry). Stands (folder h.parts.name c) l) at.stored (stands_now (view h.disk) h.parts.name h.parts.tail h.parts.greatest fits at.held c may)
 
@@ -91,7 +91,7 @@ module _ {D M : Type 0} (d : MachineDecision) (view : D → View) (cells : M →
   none_taken (Refused why) c stands = stands
 
   -- a log that is left alone stays, whatever is offered
-  pub stays_untaken : (admission : Admission) → IsDiskSound (view h.disk) → StandsAt d view cells h items → Fits (view h.disk) h.parts.name h.parts.tail h.parts.greatest
+  pub stays_untaken : (admission : Admission) → IsDiskSound (view h.disk) → StandsAt d view cells h items → FilesFit (view h.disk) h.parts.name h.parts.tail h.parts.greatest
       → LeavesOnly (view h.disk) (view h.disk) (StandsOrTakes d h.parts.name items item admission)
   stays_untaken admission sound at fits =
       started (view h.disk) (StandsOrTakes d h.parts.name items item admission) sound (λ c may. none_taken admission c (stands_for d view cells h items at fits c may))
@@ -161,7 +161,7 @@ module _ {D M : Type 0} (d : MachineDecision) (view : D → View) (cells : M →
   none_expired (Not_now why) c stands = stands
 
   -- a log that is left alone stays, whoever is due
-  pub stays_unexpired : (expiry : Expiry) → IsDiskSound (view h.disk) → StandsAt d view cells h items → Fits (view h.disk) h.parts.name h.parts.tail h.parts.greatest
+  pub stays_unexpired : (expiry : Expiry) → IsDiskSound (view h.disk) → StandsAt d view cells h items → FilesFit (view h.disk) h.parts.name h.parts.tail h.parts.greatest
       → LeavesOnly (view h.disk) (view h.disk) (StandsOrExpires d h.parts.name items time expiry)
   stays_unexpired expiry sound at fits =
       started (view h.disk) (StandsOrExpires d h.parts.name items time expiry) sound (λ c may. none_expired expiry c (stands_for d view cells h items at fits c may))

@@ -7,7 +7,7 @@ use Rattle.segment_files.specs.Parse.{Part, Closed, Whole, Damaged}
 use Rattle.segment_files.specs.Folder.{found, folder, IsChoice, IsFault}
 use Rattle.segment_set.specs.declared.tail.Tail.{Tail}
 use Rattle.segment_set.specs.declared.parts.Parts.{Parts}
-use Rattle.segment_set.specs.Fits.{Fits, parts_in}
+use Rattle.segment_set.specs.Fits.{FilesFit, tail_parts}
 use Rattle.segment_set.proofs.Faultless.{no_fault}
 use Rattle.segment_set.specs.Opening.{IsGreatestListed}
 use Rattle.segment_set.proofs.Images.{nothing, only_one, here}
@@ -19,9 +19,9 @@ use Rattle.host_recovery.specs.Standing.{layout_in, part_layout}
 use Rattle.host_recovery.proofs.Openings.{one_choice}
 
 abbrev layout_of : View → List ℕ → Option Tail → ℕ → Layout
-layout_of v name tail greatest = record { parts = map part_layout (parts_in v.reading name tail); greatest = greatest }
+layout_of v name tail greatest = record { parts = map part_layout (tail_parts v.reading name tail); greatest = greatest }
 
-pub needs_file_is : (v : View) (name : List ℕ) (tail : Option Tail) (greatest : ℕ) → Fits v name tail greatest → needs_file (layout_of v name tail greatest) ≡ is_none tail
+pub needs_file_is : (v : View) (name : List ℕ) (tail : Option Tail) (greatest : ℕ) → FilesFit v name tail greatest → needs_file (layout_of v name tail greatest) ≡ is_none tail
 needs_file_is v name None greatest fits = refl
 needs_file_is v name (Some tail) greatest fits =
     let t = fits.tail_is in
@@ -62,13 +62,13 @@ none_whole v name none = record {
     damaged id None is d = cc (d, is)
     damaged id (Some b) is d = none id (b, is)
 
-pub choice_is : (v : View) (name : List ℕ) (tail : Option Tail) (greatest : ℕ) → Fits v name tail greatest → IsChoice (folder name v.reading) (parts_in v.reading name tail)
+pub choice_is : (v : View) (name : List ℕ) (tail : Option Tail) (greatest : ℕ) → FilesFit v name tail greatest → IsChoice (folder name v.reading) (tail_parts v.reading name tail)
 choice_is v name None greatest fits = none_whole v name fits.only
 choice_is v name (Some tail) greatest fits =
     let t = fits.tail_is in
     subst (IsChoice (folder name v.reading)) (sym (list_at v name tail t.part t.whole)) (some_whole v name tail t.part t.whole fits.only)
 
-greatest_is : (v : View) (name : List ℕ) (tail : Option Tail) (greatest : ℕ) → Fits v name tail greatest → IsGreatest v.reading name (greatest_of (map part_layout (parts_in v.reading name tail)))
+greatest_is : (v : View) (name : List ℕ) (tail : Option Tail) (greatest : ℕ) → FilesFit v name tail greatest → IsGreatest v.reading name (greatest_of (map part_layout (tail_parts v.reading name tail)))
 greatest_is v name None greatest fits = record { above = λ id there. absurd (fits.only id there); taken = inl refl }
 greatest_is v name (Some tail) greatest fits =
     let t = fits.tail_is in
@@ -80,8 +80,8 @@ greatest_is v name (Some tail) greatest fits =
       taken = inr (tail.id, (b.0, b.1), sym is);
     })
 
-only_is : (v : View) (name : List ℕ) (tail : Option Tail) (greatest : ℕ) → Fits v name tail greatest → (id : FileId) → IsThere v.reading name id
-    → (p : PartLayout) × Contains (map part_layout (parts_in v.reading name tail)) p × (p.base ≡ id.base) × (p.generation ≡ id.generation)
+only_is : (v : View) (name : List ℕ) (tail : Option Tail) (greatest : ℕ) → FilesFit v name tail greatest → (id : FileId) → IsThere v.reading name id
+    → (p : PartLayout) × Contains (map part_layout (tail_parts v.reading name tail)) p × (p.base ≡ id.base) × (p.generation ≡ id.generation)
 only_is v name None greatest fits id there = absurd (fits.only id there)
 only_is v name (Some tail) greatest fits id there =
     let t = fits.tail_is in
@@ -93,10 +93,10 @@ only_is v name (Some tail) greatest fits id there =
     )
 
 -- the files lie so, with no others beside them
-pub is_laid_out : (v : View) (name : List ℕ) (tail : Option Tail) (greatest : ℕ) → Fits v name tail greatest → LiesAlone name v.reading (alone (layout_of v name tail greatest))
+pub is_laid_out : (v : View) (name : List ℕ) (tail : Option Tail) (greatest : ℕ) → FilesFit v name tail greatest → LiesAlone name v.reading (alone (layout_of v name tail greatest))
 is_laid_out v name tail greatest fits = record {
   lies = record {
-    parts = parts_in v.reading name tail;
+    parts = tail_parts v.reading name tail;
     choice = choice_is v name tail greatest fits;
     parts_are = refl;
     greatest = greatest_is v name tail greatest fits;
@@ -105,10 +105,10 @@ is_laid_out v name tail greatest fits = record {
 }
 
 -- what was read lies so
-pub lies_so : (v w : View) (name : List ℕ) (parts : Parts) → parts.name ≡ name → IsChoice (folder name v.reading) (parts_in w.reading name parts.tail) → IsGreatestListed v name parts.greatest → Lies name v.reading (layout_in w parts)
+pub lies_so : (v w : View) (name : List ℕ) (parts : Parts) → parts.name ≡ name → IsChoice (folder name v.reading) (tail_parts w.reading parts.name parts.tail) → IsGreatestListed v name parts.greatest → Lies name v.reading (layout_in w parts)
 lies_so v w name parts named choice great = record {
-  parts = parts_in w.reading parts.name parts.tail;
-  choice = subst (λ (n : List ℕ). IsChoice (folder name v.reading) (parts_in w.reading n parts.tail)) (sym named) choice;
+  parts = tail_parts w.reading parts.name parts.tail;
+  choice = choice;
   parts_are = refl;
   greatest = record { above = great.above; taken = great.taken };
 }
@@ -128,12 +128,12 @@ lie_alike name image a b x y =
     λ i. record { parts = parts i; greatest = greatest i }
 
 -- where files fit a choice of them, none has a fault
-pub none_at_fault : (v w : View) (name : List ℕ) (tail : Option Tail) (greatest : ℕ) (id : FileId) (at : ℕ) → Fits w name tail greatest → IsChoice (folder name v.reading) (parts_in w.reading name tail) → IsFault (folder name v.reading) id at → ⊥
-none_at_fault v w name tail greatest id at fits choice fault = no_fault v name (parts_in w.reading name tail) id at choice (based tail fits) fault
+pub none_at_fault : (v w : View) (name now : List ℕ) (tail : Option Tail) (greatest : ℕ) (id : FileId) (at : ℕ) → FilesFit w now tail greatest → IsChoice (folder name v.reading) (tail_parts w.reading now tail) → IsFault (folder name v.reading) id at → ⊥
+none_at_fault v w name now tail greatest id at fits choice fault = no_fault v name (tail_parts w.reading now tail) id at choice (based tail fits) fault
   where
-    based : (tail : Option Tail) → Fits w name tail greatest → (p : Part) → Contains (parts_in w.reading name tail) p → p.id.base ≡ 1
+    based : (tail : Option Tail) → FilesFit w now tail greatest → (p : Part) → Contains (tail_parts w.reading now tail) p → p.id.base ≡ 1
     based None fits p has = absurd (nothing p has)
     based (Some tail) fits p has =
         let t = fits.tail_is in
-        let one = subst (λ (ps : List Part). Contains ps p) (list_at w name tail t.part t.whole) has in
-        ap (λ (r : Part). r.id.base) (sym (only_one t.part p one)) ∙ ap (λ (i : FileId). i.base) (whole_plain w name tail.id t.part t.whole).id_is ∙ tail.base_is
+        let one = subst (λ (ps : List Part). Contains ps p) (list_at w now tail t.part t.whole) has in
+        ap (λ (r : Part). r.id.base) (sym (only_one t.part p one)) ∙ ap (λ (i : FileId). i.base) (whole_plain w now tail.id t.part t.whole).id_is ∙ tail.base_is

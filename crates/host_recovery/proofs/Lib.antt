@@ -3,6 +3,7 @@ pub mod Files
 pub mod Growing
 pub mod Laying
 pub mod Openings
+pub mod Replaying
 pub mod Reopenings
 pub mod Staying
 pub mod Stores

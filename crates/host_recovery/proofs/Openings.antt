@@ -7,9 +7,8 @@ use Rattle.disk_model.specs.Image.{Image}
 use Rattle.disk_model.specs.View.{View, MayHold, MayLeave, IsSound}
 use Rattle.segment_files.specs.Parse.{Numbered, Part}
 use Rattle.segment_files.specs.Folder.{Folder, folder, entries_of, AreOf, IsChoice, Stands, StandsForPrefix}
-use Rattle.segment_set.specs.Fits.{Fits, IsHeld, bare, log_of, parts_in}
+use Rattle.segment_set.specs.Fits.{FilesFit, IsTailHeld, bare, log_of, tail_parts}
 use Rattle.segment_set.proofs.Images.{nothing, only_one, here}
-use Rattle.segment_files.specs.Contents.{AreNumbered}
 use Rattle.log_model.specs.plain.Admission.{Item}
 use Rattle.log_model.specs.plain.Fitting.{ItemsFit}
 use Rattle.log_model.specs.hosted.Hosted.{Hosted, hosted_nothing, hosted_entry, hosted_step, hosted_told, hosted_folded, hosted_stored, hosted_stored_from, hosted_quiet, is_hosted_admitted, is_hosted_log_from}
@@ -23,10 +22,6 @@ use Rattle.host_recovery.specs.HostState.{HostState}
 use Rattle.host_recovery.specs.Logs.{HasPrefix, IsInOrder, IsLog, hosted_form}
 use Rattle.host_recovery.specs.Opening.{OpensAt}
 use Rattle.host_recovery.proofs.Files.{parts_are}
-
-pub none_left : {X : Type 0} (l : List X) → length l ≡ 0 → l ≡ []
-none_left [] is = refl
-none_left (x ∷ l) is = absurd (omega (arith, is))
 
 -- ---- prefixes of a log
 
@@ -121,29 +116,18 @@ read_is_left v sound p = at (v.reading p) refl
 
 -- ---- how many entries were read
 
-replay_last : (telling : Telling) (cut : ℕ) (s : Hosted) (es : Numbered) → AreNumbered s.last es → (replay_from telling cut s es).last ≡ s.last + length es
-replay_last telling cut s [] are = omega arith
-replay_last telling cut s (e ∷ es) (next, range, fits, rest) =
-    omega (arith, next, replay_last telling cut (replay_entry telling cut s e) es (subst (λ (n : ℕ). AreNumbered n es) (sym next) rest))
-
--- what is replayed from nothing ends where the entries do
-pub ends_with : (telling : Telling) (s t : Hosted) (list : Numbered) → s ≡ hosted_nothing → AreNumbered 0 list → t ≡ replay_from telling 0 s list → t.last ≡ length list
-ends_with telling s t list fresh are is =
-    let from_nothing : t ≡ replay_from telling 0 hosted_nothing list = is ∙ ap (λ (h : Hosted). replay_from telling 0 h list) fresh in
-    omega (arith, ap (λ (h : Hosted). h.last) from_nothing, replay_last telling 0 hosted_nothing list are)
-
 -- ---- the host that was opened
 
 pub opens_at : {D M : Type 0} (d : MachineDecision) (view : D → View) (cells : M → Cells) (v0 : View) (h : HostState D M) (items : List Item) (least : ℕ)
     → MachineIsLawful d → MachineHasOneOwner d → IsSound v0 → IsInOrder (hosted_form d) v0 h.parts.name items least → h.stopped ≡ false
-    → Fits (view h.disk) h.parts.name h.parts.tail h.parts.greatest
-    → IsChoice (folder h.parts.name v0.reading) (parts_in (view h.disk).reading h.parts.name h.parts.tail)
-    → IsHeld (view h.disk) h.parts.name h.parts.tail
-    → hosted cells h.core ≡ replayed (hosted_told d) 0 (entries_of (parts_in (view h.disk).reading h.parts.name h.parts.tail))
+    → FilesFit (view h.disk) h.parts.name h.parts.tail h.parts.greatest
+    → IsChoice (folder h.parts.name v0.reading) (tail_parts (view h.disk).reading h.parts.name h.parts.tail)
+    → IsTailHeld (view h.disk) h.parts.name h.parts.tail
+    → hosted cells h.core ≡ replayed (hosted_told d) 0 (entries_of (tail_parts (view h.disk).reading h.parts.name h.parts.tail))
     → OpensAt d view cells v0 items least h
 opens_at d view cells v0 h items least lawful owner sound order runs fits choice held state =
     let name = h.parts.name in
-    let parts = parts_in (view h.disk).reading name h.parts.tail in
+    let parts = tail_parts (view h.disk).reading name h.parts.tail in
     let read = order.each v0.reading (read_is_left v0 sound) in
     let prefix : List Item = take read.count items in
     let log = log_prefix d items read.count order.log in

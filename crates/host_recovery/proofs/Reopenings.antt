@@ -10,7 +10,7 @@ use Rattle.disk_model.proofs.Moments.{weaker}
 use Rattle.segment_files.specs.Folder.{folder, entries_of, IsChoice, IsFault, StandsForPrefix}
 use Rattle.segment_set.specs.declared.tail.Tail.{Tail}
 use Rattle.segment_set.specs.declared.parts.Parts.{Parts}
-use Rattle.segment_set.specs.Fits.{Fits, IsHeld, IsInOrder as FilesAreInOrder, parts_in}
+use Rattle.segment_set.specs.Fits.{FilesFit, IsTailHeld, IsInOrder as FilesAreInOrder, tail_parts}
 use Rattle.segment_set.specs.Opening.{IsGreatestListed}
 use Rattle.log_model.specs.plain.Admission.{Item}
 use Rattle.log_model.specs.hosted.Hosted.{hosted_stored, hosted_told}
@@ -30,7 +30,7 @@ whole_prefix : (d : MachineDecision) (name : List ℕ) (items : List Item) (imag
 whole_prefix d name items image has = subst (StandsFor (hosted_form d) name image) (take_all has.count items has.enough) has.stands
 
 module _ {D M : Type 0} (d : MachineDecision) (view : D → View) (cells : M → Cells) (old : HostState D M) (items : List Item) (at : StandsAt d view cells old items)
-    (fits : Fits (view old.disk) old.parts.name old.parts.tail old.parts.greatest) where
+    (fits : FilesFit (view old.disk) old.parts.name old.parts.tail old.parts.greatest) where
   -- its folder is in order for all of the log
   stays_in_order : IsInOrder (hosted_form d) (view old.disk) old.parts.name items (length items)
   stays_in_order = record {
@@ -46,19 +46,19 @@ module _ {D M : Type 0} (d : MachineDecision) (view : D → View) (cells : M →
 
   -- so the host that is opened on it stands at all of the log
   pub stands_again : (new : HostState D M) → MachineIsLawful d → MachineHasOneOwner d → IsSound (view old.disk) → new.parts.name ≡ old.parts.name → new.stopped ≡ false
-      → Fits (view new.disk) old.parts.name new.parts.tail new.parts.greatest
-      → IsChoice (folder old.parts.name (view old.disk).reading) (parts_in (view new.disk).reading old.parts.name new.parts.tail)
-      → IsHeld (view new.disk) old.parts.name new.parts.tail
-      → hosted cells new.core ≡ replayed (hosted_told d) 0 (entries_of (parts_in (view new.disk).reading old.parts.name new.parts.tail))
+      → FilesFit (view new.disk) new.parts.name new.parts.tail new.parts.greatest
+      → IsChoice (folder old.parts.name (view old.disk).reading) (tail_parts (view new.disk).reading new.parts.name new.parts.tail)
+      → IsTailHeld (view new.disk) new.parts.name new.parts.tail
+      → hosted cells new.core ≡ replayed (hosted_told d) 0 (entries_of (tail_parts (view new.disk).reading new.parts.name new.parts.tail))
       → StandsAt d view cells new items
   stands_again new lawful owner sound named runs new_fits choice held state =
       let is = sym named in
       let opened = opens_at d view cells (view old.disk) new items (length items) lawful owner sound
       (subst (λ (n : List ℕ). IsInOrder (hosted_form d) (view old.disk) n items (length items)) is stays_in_order) runs
-      (subst (λ (n : List ℕ). Fits (view new.disk) n new.parts.tail new.parts.greatest) is new_fits)
-      (subst (λ (n : List ℕ). IsChoice (folder n (view old.disk).reading) (parts_in (view new.disk).reading n new.parts.tail)) is choice)
-      (subst (λ (n : List ℕ). IsHeld (view new.disk) n new.parts.tail) is held)
-      (subst (λ (n : List ℕ). hosted cells new.core ≡ replayed (hosted_told d) 0 (entries_of (parts_in (view new.disk).reading n new.parts.tail))) is state) in
+      new_fits
+      (subst (λ (n : List ℕ). IsChoice (folder n (view old.disk).reading) (tail_parts (view new.disk).reading new.parts.name new.parts.tail)) is choice)
+      held
+      state in
       subst (StandsAt d view cells new) (take_all opened.count items opened.enough) opened.stands
 
   -- and whatever a crash leaves on the way stands for it
@@ -73,12 +73,12 @@ module _ {D M : Type 0} (d : MachineDecision) (view : D → View) (cells : M →
       (λ image has. whole_prefix d name items image (items_prefix d name items least image has))
 
 -- the files lie as they lay, with no others beside them
-pub lie_as_before : (v w : View) (old new : Parts) → Fits v old.name old.tail old.greatest → new.name ≡ old.name
-    → IsChoice (folder old.name v.reading) (parts_in w.reading old.name new.tail) → IsGreatestListed v old.name new.greatest
+pub lie_as_before : (v w : View) (old new : Parts) → FilesFit v old.name old.tail old.greatest → new.name ≡ old.name
+    → IsChoice (folder old.name v.reading) (tail_parts w.reading new.name new.tail) → IsGreatestListed v old.name new.greatest
     → layout_in w new ≡ alone (layout_in v old)
 lie_as_before v w old new fits named choice great =
     lie_alike old.name v.reading (layout_in w new) (alone (layout_in v old)) (lies_so v w old.name new named choice great) (is_laid_out v old.name old.tail old.greatest fits).lies
 
 -- a folder that fits what is remembered of it has no fault
-pub fits_no_fault : (v : View) (name : List ℕ) (tail : Option Tail) (greatest : ℕ) (id : FileId) (at : ℕ) → Fits v name tail greatest → IsFault (folder name v.reading) id at → ⊥
-fits_no_fault v name tail greatest id at fits fault = none_at_fault v v name tail greatest id at fits (choice_is v name tail greatest fits) fault
+pub fits_no_fault : (v : View) (name : List ℕ) (tail : Option Tail) (greatest : ℕ) (id : FileId) (at : ℕ) → FilesFit v name tail greatest → IsFault (folder name v.reading) id at → ⊥
+fits_no_fault v name tail greatest id at fits fault = none_at_fault v v name name tail greatest id at fits (choice_is v name tail greatest fits) fault

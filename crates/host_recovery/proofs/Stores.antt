@@ -1,13 +1,19 @@
 -- What an entry that is stored leaves of a host's files, and what a crash leaves on the way.
-use Rattle.std.proofs.Common.{◌≡◌, ℕ, ◌+◌, List, [], ◌∷◌, inl, subst, ◌∙◌, ap}
+use Rattle.std.proofs.Common.{◌≡◌, ℕ, ◌+◌, ◌<◌, Bool, true, false, nat_le, is_none, Option, None, List, [], ◌∷◌, inl, refl, sym, subst, ◌∙◌, ap}
+use Rattle.std.proofs.lemmas.Bool.{leb-false}
+use Rattle.host_types.specs.Limits.{index_limit}
+use Rattle.host_types.specs.declared.entry.Refusal.TheVariants as refusals
 use Rattle.host_types.specs.declared.entry.Entry.{Entry}
 use Rattle.host_types.specs.Ranges.{EntryFits, IsInRange}
 use Rattle.disk_model.specs.View.{View, IsSound, LeavesOnly}
 use Rattle.disk_model.proofs.Moments.{started}
 use Rattle.segment_files.specs.Contents.{shut_frame_bytes}
 use Rattle.segment_set.specs.declared.parts.Parts.{Parts}
-use Rattle.segment_set.specs.Fits.{Fits, IsEmptyWhereNone, IsFrameFor, IsHeld, StandsOrGains}
+use Rattle.segment_set.specs.Fits.{FilesFit, IsEmptyWhereNone, IsFrameFor, IsTailHeld, StandsOrGains}
 use Rattle.segment_set.proofs.Emptied.{held_empty}
+use Rattle.segment_set.specs.declared.tail.Tail.{Tail}
+use Rattle.log_model.specs.plain.Admission.{Admitted, refused_if}
+use Rattle.host_recovery.specs.Answers.{admits_file, finds_file}
 use Rattle.host_recovery.specs.Standing.{log_in}
 use Rattle.host_recovery.proofs.Files.{stands_now}
 
@@ -20,10 +26,18 @@ frame_for last index frame entry is range fits bytes = record {
 }
 
 -- nothing was done yet
-pub not_yet : (v : View) (parts : Parts) (entry : Entry) → IsSound v → Fits v parts.name parts.tail parts.greatest → IsHeld v parts.name parts.tail
+pub not_yet : (v : View) (parts : Parts) (entry : Entry) → IsSound v → FilesFit v parts.name parts.tail parts.greatest → IsTailHeld v parts.name parts.tail
     → LeavesOnly v v (StandsOrGains parts.name (log_in v parts) entry)
 not_yet v parts entry sound fits held =
     started v (StandsOrGains parts.name (log_in v parts) entry) sound (λ c may. inl (stands_now v parts.name parts.tail parts.greatest fits held c may))
 
-pub stays_empty : (v : View) (parts : Parts) → Fits v parts.name parts.tail parts.greatest → IsHeld v parts.name parts.tail → IsEmptyWhereNone v parts.name
+pub stays_empty : (v : View) (parts : Parts) → FilesFit v parts.name parts.tail parts.greatest → IsTailHeld v parts.name parts.tail → IsEmptyWhereNone v parts.name
 stays_empty v parts fits held = held_empty v parts.name parts.tail parts.greatest fits held
+
+-- where an entry finds a file, and a new one is needed, a generation is left for it
+pub file_left : (parts : Parts) → admits_file parts ≡ Admitted → parts.tail ≡ None → parts.greatest < index_limit
+file_left parts admitted none = by (nat_le index_limit parts.greatest) refl (sym (ap (λ (o : Option Tail). finds_file (is_none o) parts.greatest) none) ∙ admitted)
+  where
+    by : (t : Bool) → nat_le index_limit parts.greatest ≡ t → refused_if t (refusals.GenEnd parts.greatest) ≡ Admitted → parts.greatest < index_limit
+    by true is refused = absurd (cc refused)
+    by false is found = leb-false index_limit parts.greatest is

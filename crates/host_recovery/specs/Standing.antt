@@ -33,14 +33,14 @@ StandsOrExpires d name items time (Not_now why) image = StandsFor (hosted_form d
 
 -- what the files of a host hold
 abbrev pub log_in : View → Parts → List Entry
-log_in v parts = log_of (parts_in v.reading parts.name parts.tail)
+log_in v parts = log_of (parts_in v.reading parts)
 
 abbrev pub part_layout : Part → PartLayout
 part_layout p = record { base = p.id.base; last = p.last; present = map (λ (e : ℕ × Entry). e.0) p.entries; cut = p.cut; floor = p.floor; generation = p.id.generation; size = p.size; rewritten = p.rewritten }
 
 -- and how they lie
 abbrev pub layout_in : View → Parts → Layout
-layout_in v parts = record { parts = map part_layout (parts_in v.reading parts.name parts.tail); greatest = parts.greatest }
+layout_in v parts = record { parts = map part_layout (parts_in v.reading parts); greatest = parts.greatest }
 
 -- A host stands at a log: it runs, its files hold the log's stored form, so does whatever a crash leaves now, and its state is what
 -- the log comes to.
@@ -48,7 +48,7 @@ pub record StandsAt {D M : Type 0} (d : MachineDecision) (view : D → View) (ce
   pub runs : h.stopped ≡ false
   pub log : IsLog (hosted_form d) items
   pub stored : log_in (view h.disk) h.parts ≡ hosted_stored d items
-  pub held : IsHeld (view h.disk) h.parts.name h.parts.tail
+  pub held : IsHeld (view h.disk) h.parts
   pub state : hosted cells h.core ≡ hosted_folded d items
 
 -- ---- what a host keeps
@@ -57,5 +57,5 @@ pub record StandsAt {D M : Type 0} (d : MachineDecision) (view : D → View) (ce
 pub record IsKept {D M : Type 0} (tells : Bool) (view : D → View) (cells : M → Cells) (h : HostState D M) : Type 0 where
   pub size_first : 2 ≤ h.size
   pub size_last : h.size ≤ 65536
-  pub last : h.stopped ≡ false → h.core.last ≡ last_of h.parts.tail
-  pub fits : h.stopped ≡ false → IsTrue tells → Fits (view h.disk) h.parts.name h.parts.tail h.parts.greatest
+  pub last : h.stopped ≡ false → h.core.last ≡ last_of h.parts
+  pub fits : h.stopped ≡ false → IsTrue tells → Fits (view h.disk) h.parts

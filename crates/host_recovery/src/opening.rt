@@ -2,8 +2,7 @@
 ghost use Rattle.std.specs.Prelude.{◌≡◌, ◌≤◌, ◌+◌, ℕ, List, [], false, true, IsTrue, IfOk, OnOk, OnErr, IsErrOf};
 ghost use Rattle.disk_model.specs.declared.file_id.FileId.{FileId};
 ghost use Rattle.disk_model.specs.View.{LeavesAt, LeavesOnly, MayHold};
-ghost use Rattle.disk_model.specs.Calls.{Stays};
-ghost use Rattle.segment_files.specs.Contents.{AreNumbered};
+ghost use Rattle.disk_model.specs.Calls.{Looks};
 ghost use Rattle.segment_files.specs.Parse.{Numbered, Part, Whole};
 ghost use Rattle.segment_files.specs.Folder.{folder, entries_of, IsChoice, IsFault, StandsForPrefix};
 ghost use Rattle.host_types.specs.declared.entry.Entry.{Entry};
@@ -23,24 +22,41 @@ ghost use Rattle.host_recovery.specs.Opening.{OpensAt, disk_behind, went};
 use crate::host::Host;
 use disk_model::Disk;
 use host_core::Core;
-use host_types::{Entry, Index, LogName, NoMemory};
+use host_types::LogName;
 use machine::Machine;
 use segment_set::{OpenError, Parts};
 use std::alloc::Global;
 use std::mem;
 
-/// Replays entries, each at the index behind the one before, and the first behind the core's last one.
-fn replay_all<M: Machine>(
+/// Replays what these files hold, one entry after the other, each read from its place.
+fn replay_all<D: Disk, M: Machine>(
     alloc: Global,
+    disk: &mut D,
     core: &mut Core<M>,
-    list: Vec<(Index, Entry)>,
-) -> Result<(), NoMemory>
-    requires numbered { AreNumbered core.old.last list.items }
-    ensures state { OnOk result (hosted M.cells core.new ≡ replay_from (hosted_told M.decides) 0 (hosted M.cells core.old) list.items) }
+    parts: &Parts,
+) -> Result<(), OpenError>
+    requires fits { IsTrue D.tells → Fits (D.view disk.old) parts.now }
+    requires fresh { core.old.last ≡ 0 }
+    ensures state { OnOk result (IsTrue D.tells → hosted M.cells core.new ≡ replay_from (hosted_told M.decides) 0 (hosted M.cells core.old) (entries_of (parts_in (D.view disk.old).reading parts.now))) }
+    ensures last { OnOk result (core.new.last ≡ last_of parts.now) }
     ensures confirmed { OnOk result (ConfirmsAcked core.old.sessions → ConfirmsAcked core.new.sessions) }
+    ensures undamaged { (base generation at : ℕ) → IsErrOf result (OpenError.Damaged base generation at) → IsTrue D.tells → ⊥ }
+    ensures looks { IsTrue D.tells → Looks (D.view disk.old) (D.view disk.new) }
+    ensures cause { HasOpenCause (D.faults disk.old) (D.faults disk.new) result }
 {
-    for (index, entry) in list {
-        core.replay(alloc, index, entry, 0)?;
+    let mut index = 0;
+    while index < parts.last() {
+        index += 1;
+        let found = match parts.read(alloc, disk, index) {
+            Ok(found) => found,
+            Err(error) => return Err(error),
+        };
+        if let Some(entry) = found {
+            match core.replay(alloc, index, entry, 0) {
+                Ok(()) => {}
+                Err(_) => return Err(OpenError::NoMemory),
+            }
+        }
     }
     Ok(())
 }
@@ -55,12 +71,12 @@ fn load<D: Disk, M: Machine>(
     requires fresh { hosted M.cells core.old ≡ hosted_nothing }
     requires unconfirmed { ConfirmsAcked core.old.sessions }
     ensures name { IfOk result (λ parts. parts.name ≡ name.now) }
-    ensures fits { IfOk result (λ parts. IsTrue D.tells → Fits (D.view disk.new) name.now parts.tail parts.greatest) }
-    ensures state { IfOk result (λ parts. IsTrue D.tells → hosted M.cells core.new ≡ replayed (hosted_told M.decides) 0 (entries_of (parts_in (D.view disk.new).reading name.now parts.tail))) }
-    ensures last { IfOk result (λ parts. core.new.last ≡ last_of parts.tail) }
+    ensures fits { IfOk result (λ parts. IsTrue D.tells → Fits (D.view disk.new) parts) }
+    ensures state { IfOk result (λ parts. IsTrue D.tells → hosted M.cells core.new ≡ replayed (hosted_told M.decides) 0 (entries_of (parts_in (D.view disk.new).reading parts))) }
+    ensures last { IfOk result (λ parts. core.new.last ≡ last_of parts) }
     ensures confirmed { OnOk result (ConfirmsAcked core.new.sessions) }
-    ensures choice { IfOk result (λ parts. IsTrue D.tells → IsChoice (folder name.now (D.view disk.old).reading) (parts_in (D.view disk.new).reading name.now parts.tail)) }
-    ensures held { IfOk result (λ parts. IsTrue D.tells → IsEmptyWhereNone (D.view disk.old) name.now → IsHeld (D.view disk.new) name.now parts.tail) }
+    ensures choice { IfOk result (λ parts. IsTrue D.tells → IsChoice (folder name.now (D.view disk.old).reading) (parts_in (D.view disk.new).reading parts)) }
+    ensures held { IfOk result (λ parts. IsTrue D.tells → IsEmptyWhereNone (D.view disk.old) name.now → IsHeld (D.view disk.new) parts) }
     ensures greatest { IfOk result (λ parts. IsTrue D.tells → IsGreatestListed (D.view disk.old) name.now parts.greatest) }
     ensures damaged { (base generation at : ℕ) → IsErrOf result (OpenError.Damaged base generation at)
         → IsTrue D.tells → IsFault (folder name.now (D.view disk.old).reading) (id_from base generation) at × ((D.view disk.new).reading ≡ (D.view disk.old).reading) }
@@ -72,14 +88,16 @@ fn load<D: Disk, M: Machine>(
     ensures others { IsTrue D.tells → KeepsNames (D.view disk.old) (D.view disk.new) name.now }
     ensures cause { HasOpenCause (D.faults disk.old) (D.faults disk.new) result }
 {
-    let mut entries = Vec::new(alloc);
-    let parts = match Parts::load(alloc, disk, name, &mut entries) {
+    let parts = match Parts::load(alloc, disk, name) {
         Ok(parts) => parts,
         Err(error) => return Err(error),
     };
-    match replay_all(alloc, core, entries) {
+    match replay_all(alloc, disk, core, &parts) {
         Ok(()) => Ok(parts),
-        Err(_) => Err(OpenError::NoMemory),
+        Err(error) => {
+            drop(parts);
+            Err(error)
+        }
     }
 }
 

@@ -106,10 +106,10 @@ impl<D: Disk, M: Machine> Host<D, M> {
         ensures confirmed { OnOk result (confirmed_positions self.new.core.sessions.beside ≡ confirmed_by ((hosted M.cells self.old.core).last + 1) entry.body (confirmed_positions self.old.core.sessions.beside)) }
         ensures log { OnOk result (IsTrue D.tells → log_in (D.view self.new.disk) self.new.parts ≡ log_in (D.view self.old.disk) self.old.parts ++ entry ∷ []) }
         ensures layout { OnOk result (IsTrue D.tells → layout_in (D.view self.new.disk) self.new.parts ≡ with_entry self.old.size (layout_in (D.view self.old.disk) self.old.parts)) }
-        ensures held { OnOk result (IsTrue D.tells → IsHeld (D.view self.old.disk) self.old.parts.name self.old.parts.tail → IsHeld (D.view self.new.disk) self.new.parts.name self.new.parts.tail) }
-        ensures any_moment { IsTrue D.tells → IsHeld (D.view self.old.disk) self.old.parts.name self.old.parts.tail
+        ensures held { OnOk result (IsTrue D.tells → IsHeld (D.view self.old.disk) self.old.parts → IsHeld (D.view self.new.disk) self.new.parts) }
+        ensures any_moment { IsTrue D.tells → IsHeld (D.view self.old.disk) self.old.parts
             → LeavesOnly (D.view self.old.disk) (D.view self.new.disk) (FilesStandOrGain self.old.parts.name (log_in (D.view self.old.disk) self.old.parts) entry) }
-        ensures empty { IsTrue D.tells → IsHeld (D.view self.old.disk) self.old.parts.name self.old.parts.tail → IsEmptyWhereNone (D.view self.new.disk) self.old.parts.name }
+        ensures empty { IsTrue D.tells → IsHeld (D.view self.old.disk) self.old.parts → IsEmptyWhereNone (D.view self.new.disk) self.old.parts.name }
         ensures others { IsTrue D.tells → KeepsNames (D.view self.old.disk) (D.view self.new.disk) self.old.parts.name }
         ensures error { IfErr result IsStoreError }
         ensures after { IfErr result (AfterError M.cells self.old self.new) }
@@ -119,6 +119,13 @@ impl<D: Disk, M: Machine> Host<D, M> {
     {
         let index = self.core.last() + 1;
         match put_frame(&mut self.frame, &mut self.places, index, &entry) {
+            Ok(()) => {}
+            Err(_) => {
+                drop(entry);
+                return Err(HostError::NoMemory);
+            }
+        }
+        match self.parts.prepare_append(1) {
             Ok(()) => {}
             Err(_) => {
                 drop(entry);

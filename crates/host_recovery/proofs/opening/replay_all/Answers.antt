@@ -1,50 +1,52 @@
-use Rattle.std.proofs.Common.{◌≡◌, ℕ, [], sym, ap, subst, ◌∙◌, arith}
-use Rattle.std.specs.Vec.Iter.{into_iter_items}
-use Rattle.segment_files.specs.Contents.{AreNumbered}
+use Rattle.std.proofs.Common.{◌≡◌, ◌+◌, ℕ, Option, Contains, sym, ap, subst, refl, arith}
+use Rattle.disk_model.specs.Image.{Image}
+use Rattle.segment_files.specs.Folder.{entries_of}
+use Rattle.segment_set.specs.Fits.{IsEntryAt, parts_in}
 use Rattle.log_model.specs.hosted.Hosted.{Hosted, hosted_told}
-use Rattle.log_model.specs.replay.Replay.{replay_from}
 use Rattle.host_core.specs.CoreState.{hosted}
-use Rattle.host_recovery.proofs.Openings.{none_left}
+use Rattle.segment_files.proofs.Looking.{looks_not, looks_then}
+use Rattle.host_recovery.proofs.Replaying.{replayed_all, replayed_next}
+use Rattle.host_recovery.proofs.Staying.{parts_stay}
 use Rattle.host_recovery.proofs.opening.replay_all.Goals as goal
 
 pub loop-index-init : goal.loop-index-init
-loop-index-init g c =
-    let is = c.into_iter-index-iterator.ensures.into_iter_gives.0 in
-    record {
-      next = tt;
-      finite = tt;
-      numbered = subst (AreNumbered c.args.core.now.last) (sym is) c.requires.numbered;
-      state = ap (replay_from (hosted_told g.M.Machine.decides) 0 (hosted g.M.Machine.cells c.args.core.now)) is;
-      confirmed = λ is. is;
-    }
+loop-index-init g c = record {
+  last = c.requires.fresh;
+  within = omega arith;
+  looks = λ t. looks_not (g.D.Disk.view c.args.disk.now) (g.met.D.Disk.sound c.args.disk.now t);
+  faults = omega arith;
+  confirmed = λ is. is;
+  state = λ t. refl;
+}
 
-pub replay-requires-clause-behind : goal.replay-requires-clause-behind
-replay-requires-clause-behind g c =
-    let numbered = subst (AreNumbered c.loop-index.core.last) c.in-Some.ensures.steps.0 c.loop-index.invariant.numbered in
-    omega (arith, numbered.0)
+pub read-requires : goal.read-requires
+read-requires g c = record {
+  fits = λ t. parts_stay (g.D.Disk.view c.args.disk.now) (g.D.Disk.view c.loop-index.disk) c.args.parts.now (c.loop-index.invariant.looks t).stays (c.requires.fits t);
+}
 
-pub replay-requires-clause-fits : goal.replay-requires-clause-fits
-replay-requires-clause-fits g c = (subst (AreNumbered c.loop-index.core.last) c.in-Some.ensures.steps.0 c.loop-index.invariant.numbered).2
-
-pub replay-requires-clause-range : goal.replay-requires-clause-range
-replay-requires-clause-range g c = (subst (AreNumbered c.loop-index.core.last) c.in-Some.ensures.steps.0 c.loop-index.invariant.numbered).1
-
-pub loop-index-preserved : goal.loop-index-preserved
-loop-index-preserved g c =
+pub loop-index-preserved-in-Ok-replay : goal.loop-index-preserved-in-Ok-replay
+loop-index-preserved-in-Ok-replay g c =
+    let v0 = g.D.Disk.view c.args.disk.now in
+    let v = g.D.Disk.view c.loop-index.disk in
+    let w = g.D.Disk.view c.read.new.disk in
     let told = hosted_told g.M.Machine.decides in
-    let numbered = subst (AreNumbered c.loop-index.core.last) c.in-Some.ensures.steps.0 c.loop-index.invariant.numbered in
-    let last : c.replay.new.self.last ≡ c.in-Some.index = ap (λ (s : Hosted). s.last) c.in_ok-replay.ensures.ok in
+    let last : c.replay.new.self.last ≡ c.loop-index.index + 1 = ap (λ (s : Hosted). s.last) c.in-Ok-replay.ensures.ok in
     record {
-      next = tt;
-      finite = tt;
-      numbered = subst (λ (n : ℕ). AreNumbered n (into_iter_items c.next.new.self)) (sym (last ∙ numbered.0)) numbered.3;
-      state = ap (λ (s : Hosted). replay_from told 0 s (into_iter_items c.next.new.self)) c.in_ok-replay.ensures.ok
-          ∙ ap (replay_from told 0 (hosted g.M.Machine.cells c.loop-index.core)) (sym c.in-Some.ensures.steps.0)
-          ∙ c.loop-index.invariant.state;
-      confirmed = λ is. c.in_ok-replay.ensures.confirmed (c.loop-index.invariant.confirmed is);
+      last = last;
+      within = omega (arith, c.loop-index-test.true, c.last.ensures);
+      looks = λ t. looks_then v0 v w (g.met.D.Disk.sound c.args.disk.now t) (c.loop-index.invariant.looks t) (c.read.ensures.looks t);
+      faults = omega (arith, c.loop-index.invariant.faults, c.read.ensures.cause.later);
+      confirmed = λ is. c.in-Ok-replay.ensures.confirmed (c.loop-index.invariant.confirmed is);
+      state = λ t.
+          let reading = (c.loop-index.invariant.looks t).stays.reading in
+          replayed_next v0 c.args.parts.now (c.requires.fits t) told (hosted g.M.Machine.cells c.args.core.now) c.loop-index.index c.in-Some.entry
+          (hosted g.M.Machine.cells c.loop-index.core) (hosted g.M.Machine.cells c.replay.new.self) (c.loop-index.invariant.state t)
+          (subst (λ (r : Image). Contains (entries_of (parts_in r c.args.parts.now)) (c.loop-index.index + 1, c.in-Some.entry)) reading
+          (subst (IsEntryAt (entries_of (parts_in v.reading c.args.parts.now)) (c.loop-index.index + 1)) c.in-Some.is (c.in-Ok.ensures.entry t)))
+          c.in-Ok-replay.ensures.ok;
     }
 
 pub returns-clause-state : goal.returns-clause-state
-returns-clause-state g c =
-    let none : into_iter_items c.loop-index.index-iterator ≡ [] = none_left (into_iter_items c.loop-index.index-iterator) (omega (arith, c.in-None.ensures.steps.0, c.loop-index.index-iterator.rest.ok.0)) in
-    ap (replay_from (hosted_told g.M.Machine.decides) 0 (hosted g.M.Machine.cells c.loop-index.core)) (sym none) ∙ c.loop-index.invariant.state
+returns-clause-state g c = λ t.
+    replayed_all (g.D.Disk.view c.args.disk.now) c.args.parts.now (c.requires.fits t) (hosted_told g.M.Machine.decides) (hosted g.M.Machine.cells c.args.core.now) c.loop-index.index (hosted g.M.Machine.cells c.loop-index.core)
+    (omega (arith, c.loop-index-test.false, c.last.ensures)) (c.loop-index.invariant.state t)

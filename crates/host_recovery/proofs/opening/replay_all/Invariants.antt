@@ -1,6 +1,8 @@
-use Rattle.std.proofs.Common.{◌≡◌}
-use Rattle.std.specs.Vec.Iter.{into_iter_items}
-use Rattle.segment_files.specs.Contents.{AreNumbered}
+-- So far the entries up to an index were replayed, and the disk was looked at.
+use Rattle.std.proofs.Common.{◌≡◌, ◌≤◌, ◌-◌, take, IsTrue}
+use Rattle.disk_model.specs.Calls.{Looks}
+use Rattle.segment_files.specs.Folder.{entries_of}
+use Rattle.segment_set.specs.Fits.{last_of, parts_in}
 use Rattle.log_model.specs.hosted.Hosted.{hosted_told}
 use Rattle.log_model.specs.replay.Replay.{replay_from}
 use Rattle.session_table.specs.Table.{ConfirmsAcked}
@@ -9,10 +11,14 @@ use Rattle.host_recovery.proofs.opening.replay_all.Given as goal
 
 abbrev pub invariant-loop-index : goal.invariant-loop-index
 invariant-loop-index g l = record {
-  next : (goal.iterator-loop-index g).can_next l.index-iterator;
-  finite : (goal.iterator-loop-index g).is_finite l.index-iterator;
-  numbered : AreNumbered l.core.last (into_iter_items l.index-iterator);
-  state : replay_from (hosted_told g.M.Machine.decides) 0 (hosted g.M.Machine.cells l.core) (into_iter_items l.index-iterator)
-      ≡ replay_from (hosted_told g.M.Machine.decides) 0 (hosted g.M.Machine.cells l.fn.core) l.fn.list.items;
+  last : l.core.last ≡ l.index;
+  within : l.index ≤ last_of l.parts;
+  looks : IsTrue g.D.Disk.tells → Looks (g.D.Disk.view l.fn.disk) (g.D.Disk.view l.disk);
+  faults : g.D.Disk.faults l.fn.disk ≤ g.D.Disk.faults l.disk;
   confirmed : ConfirmsAcked l.fn.core.sessions → ConfirmsAcked l.core.sessions;
+  state : IsTrue g.D.Disk.tells → hosted g.M.Machine.cells l.core
+      ≡ replay_from (hosted_told g.M.Machine.decides) 0 (hosted g.M.Machine.cells l.fn.core) (take l.index (entries_of (parts_in (g.D.Disk.view l.fn.disk).reading l.parts)));
 }
+
+abbrev pub decreases-loop-index : goal.decreases-loop-index
+decreases-loop-index g l = last_of l.parts - l.index

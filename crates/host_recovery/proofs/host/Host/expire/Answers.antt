@@ -1,7 +1,7 @@
 use Rattle.std.proofs.Common.{◌≡◌, ◌+◌, IsTrue, List, ap, sym, subst, ◌∙◌, arith}
 use Rattle.host_types.specs.Ranges.{IsInRange}
 use Rattle.disk_model.specs.View.{LeavesOnly}
-use Rattle.segment_set.specs.Fits.{IsEmptyWhereNone}
+use Rattle.segment_set.specs.Fits.{IsEmptyWhereNone, without_room}
 use Rattle.log_model.specs.plain.Admission.{Item, Admitted, Expired, Expiry, Expires, due_in}
 use Rattle.log_model.specs.hosted.Hosted.{hosted_expires}
 use Rattle.session_table.specs.Table.{Table}
@@ -16,42 +16,42 @@ use Rattle.host_recovery.proofs.host.Host.expire.Goals as goal
 pub returns-then-time-now-clause-any_moment : goal.returns-then-time-now-clause-any_moment
 returns-then-time-now-clause-any_moment g c =
     subst (λ (h : HostState g.row.D.Denot g.row.M.Denot). IsTrue g.D.Disk.tells → (items : List Item) → StandsAt g.M.Machine.decides g.D.Disk.view g.M.Machine.cells h items → LeavesOnly (g.D.Disk.view h.disk) (g.D.Disk.view h.disk) (StandsOrExpires g.M.Machine.decides h.parts.name items c.args.time (expiry_stored (hosted_expires (hosted g.M.Machine.cells h.core) c.args.time) h.parts))) c.self.view_is
-    (λ t items at. stays_unexpired g.M.Machine.decides g.D.Disk.view g.M.Machine.cells (record { disk = c.self.inside.disk; parts = c.self.inside.parts; core = c.self.inside.core; size = c.self.inside.size; stopped = c.self.inside.stopped }) items c.args.time (expiry_stored (hosted_expires (hosted g.M.Machine.cells c.self.inside.core) c.args.time) c.self.inside.parts) (g.met.D.Disk.sound c.self.inside.disk t) at (c.self.invariant.fits c.if-self.false t))
+    (λ t items at. stays_unexpired g.M.Machine.decides g.D.Disk.view g.M.Machine.cells (record { disk = c.self.inside.disk; parts = without_room c.self.inside.parts; core = c.self.inside.core; size = c.self.inside.size; stopped = c.self.inside.stopped }) items c.args.time (expiry_stored (hosted_expires (hosted g.M.Machine.cells c.self.inside.core) c.args.time) c.self.inside.parts) (g.met.D.Disk.sound c.self.inside.disk t) at (c.self.invariant.fits c.if-self.false t).files)
 
 pub returns-then-time-now-clause-empty : goal.returns-then-time-now-clause-empty
 returns-then-time-now-clause-empty g c =
     subst (λ (h : HostState g.row.D.Denot g.row.M.Denot). IsTrue g.D.Disk.tells → (items : List Item) → StandsAt g.M.Machine.decides g.D.Disk.view g.M.Machine.cells h items → IsEmptyWhereNone (g.D.Disk.view h.disk) h.parts.name) c.self.view_is
-    (λ t items at. stays_empty (g.D.Disk.view c.self.inside.disk) c.self.inside.parts (c.self.invariant.fits c.if-self.false t) at.held)
+    (λ t items at. stays_empty (g.D.Disk.view c.self.inside.disk) c.self.inside.parts (c.self.invariant.fits c.if-self.false t).files at.held)
 
 pub returns-in_default-clause-any_moment : goal.returns-in_default-clause-any_moment
 returns-in_default-clause-any_moment g c =
     subst (λ (h : HostState g.row.D.Denot g.row.M.Denot). IsTrue g.D.Disk.tells → (items : List Item) → StandsAt g.M.Machine.decides g.D.Disk.view g.M.Machine.cells h items → LeavesOnly (g.D.Disk.view h.disk) (g.D.Disk.view h.disk) (StandsOrExpires g.M.Machine.decides h.parts.name items c.args.time (expiry_stored (hosted_expires (hosted g.M.Machine.cells h.core) c.args.time) h.parts))) c.self.view_is
-    (λ t items at. stays_unexpired g.M.Machine.decides g.D.Disk.view g.M.Machine.cells (record { disk = c.self.inside.disk; parts = c.self.inside.parts; core = c.self.inside.core; size = c.self.inside.size; stopped = c.self.inside.stopped }) items c.args.time (expiry_stored (hosted_expires (hosted g.M.Machine.cells c.self.inside.core) c.args.time) c.self.inside.parts) (g.met.D.Disk.sound c.self.inside.disk t) at (c.self.invariant.fits c.if-self.false t))
+    (λ t items at. stays_unexpired g.M.Machine.decides g.D.Disk.view g.M.Machine.cells (record { disk = c.self.inside.disk; parts = without_room c.self.inside.parts; core = c.self.inside.core; size = c.self.inside.size; stopped = c.self.inside.stopped }) items c.args.time (expiry_stored (hosted_expires (hosted g.M.Machine.cells c.self.inside.core) c.args.time) c.self.inside.parts) (g.met.D.Disk.sound c.self.inside.disk t) at (c.self.invariant.fits c.if-self.false t).files)
 
 pub returns-in_default-clause-empty : goal.returns-in_default-clause-empty
 returns-in_default-clause-empty g c =
     subst (λ (h : HostState g.row.D.Denot g.row.M.Denot). IsTrue g.D.Disk.tells → (items : List Item) → StandsAt g.M.Machine.decides g.D.Disk.view g.M.Machine.cells h items → IsEmptyWhereNone (g.D.Disk.view h.disk) h.parts.name) c.self.view_is
-    (λ t items at. stays_empty (g.D.Disk.view c.self.inside.disk) c.self.inside.parts (c.self.invariant.fits c.if-self.false t) at.held)
+    (λ t items at. stays_empty (g.D.Disk.view c.self.inside.disk) c.self.inside.parts (c.self.invariant.fits c.if-self.false t).files at.held)
 
 pub returns-then-last-ge-LAST_LIMIT-clause-any_moment : goal.returns-then-last-ge-LAST_LIMIT-clause-any_moment
 returns-then-last-ge-LAST_LIMIT-clause-any_moment g c =
     subst (λ (h : HostState g.row.D.Denot g.row.M.Denot). IsTrue g.D.Disk.tells → (items : List Item) → StandsAt g.M.Machine.decides g.D.Disk.view g.M.Machine.cells h items → LeavesOnly (g.D.Disk.view h.disk) (g.D.Disk.view h.disk) (StandsOrExpires g.M.Machine.decides h.parts.name items c.args.time (expiry_stored (hosted_expires (hosted g.M.Machine.cells h.core) c.args.time) h.parts))) c.self.view_is
-    (λ t items at. stays_unexpired g.M.Machine.decides g.D.Disk.view g.M.Machine.cells (record { disk = c.self.inside.disk; parts = c.self.inside.parts; core = c.self.inside.core; size = c.self.inside.size; stopped = c.self.inside.stopped }) items c.args.time (expiry_stored (hosted_expires (hosted g.M.Machine.cells c.self.inside.core) c.args.time) c.self.inside.parts) (g.met.D.Disk.sound c.self.inside.disk t) at (c.self.invariant.fits c.if-self.false t))
+    (λ t items at. stays_unexpired g.M.Machine.decides g.D.Disk.view g.M.Machine.cells (record { disk = c.self.inside.disk; parts = without_room c.self.inside.parts; core = c.self.inside.core; size = c.self.inside.size; stopped = c.self.inside.stopped }) items c.args.time (expiry_stored (hosted_expires (hosted g.M.Machine.cells c.self.inside.core) c.args.time) c.self.inside.parts) (g.met.D.Disk.sound c.self.inside.disk t) at (c.self.invariant.fits c.if-self.false t).files)
 
 pub returns-then-last-ge-LAST_LIMIT-clause-empty : goal.returns-then-last-ge-LAST_LIMIT-clause-empty
 returns-then-last-ge-LAST_LIMIT-clause-empty g c =
     subst (λ (h : HostState g.row.D.Denot g.row.M.Denot). IsTrue g.D.Disk.tells → (items : List Item) → StandsAt g.M.Machine.decides g.D.Disk.view g.M.Machine.cells h items → IsEmptyWhereNone (g.D.Disk.view h.disk) h.parts.name) c.self.view_is
-    (λ t items at. stays_empty (g.D.Disk.view c.self.inside.disk) c.self.inside.parts (c.self.invariant.fits c.if-self.false t) at.held)
+    (λ t items at. stays_empty (g.D.Disk.view c.self.inside.disk) c.self.inside.parts (c.self.invariant.fits c.if-self.false t).files at.held)
 
 pub returns-in-Some-no_file-clause-any_moment : goal.returns-in-Some-no_file-clause-any_moment
 returns-in-Some-no_file-clause-any_moment g c =
     subst (λ (h : HostState g.row.D.Denot g.row.M.Denot). IsTrue g.D.Disk.tells → (items : List Item) → StandsAt g.M.Machine.decides g.D.Disk.view g.M.Machine.cells h items → LeavesOnly (g.D.Disk.view h.disk) (g.D.Disk.view h.disk) (StandsOrExpires g.M.Machine.decides h.parts.name items c.args.time (expiry_stored (hosted_expires (hosted g.M.Machine.cells h.core) c.args.time) h.parts))) c.self.view_is
-    (λ t items at. stays_unexpired g.M.Machine.decides g.D.Disk.view g.M.Machine.cells (record { disk = c.self.inside.disk; parts = c.self.inside.parts; core = c.self.inside.core; size = c.self.inside.size; stopped = c.self.inside.stopped }) items c.args.time (expiry_stored (hosted_expires (hosted g.M.Machine.cells c.self.inside.core) c.args.time) c.self.inside.parts) (g.met.D.Disk.sound c.self.inside.disk t) at (c.self.invariant.fits c.if-self.false t))
+    (λ t items at. stays_unexpired g.M.Machine.decides g.D.Disk.view g.M.Machine.cells (record { disk = c.self.inside.disk; parts = without_room c.self.inside.parts; core = c.self.inside.core; size = c.self.inside.size; stopped = c.self.inside.stopped }) items c.args.time (expiry_stored (hosted_expires (hosted g.M.Machine.cells c.self.inside.core) c.args.time) c.self.inside.parts) (g.met.D.Disk.sound c.self.inside.disk t) at (c.self.invariant.fits c.if-self.false t).files)
 
 pub returns-in-Some-no_file-clause-empty : goal.returns-in-Some-no_file-clause-empty
 returns-in-Some-no_file-clause-empty g c =
     subst (λ (h : HostState g.row.D.Denot g.row.M.Denot). IsTrue g.D.Disk.tells → (items : List Item) → StandsAt g.M.Machine.decides g.D.Disk.view g.M.Machine.cells h items → IsEmptyWhereNone (g.D.Disk.view h.disk) h.parts.name) c.self.view_is
-    (λ t items at. stays_empty (g.D.Disk.view c.self.inside.disk) c.self.inside.parts (c.self.invariant.fits c.if-self.false t) at.held)
+    (λ t items at. stays_empty (g.D.Disk.view c.self.inside.disk) c.self.inside.parts (c.self.invariant.fits c.if-self.false t).files at.held)
 
 pub store-requires-clause-range : goal.store-requires-clause-range
 store-requires-clause-range g c =

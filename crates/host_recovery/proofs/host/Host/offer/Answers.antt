@@ -2,7 +2,7 @@ use Rattle.std.proofs.Common.{◌≡◌, ◌+◌, false, IsTrue, List, Ok, ap, s
 use Rattle.host_types.specs.Ranges.{IsInRange}
 use Rattle.host_types.specs.declared.entry.Entry.{Entry}
 use Rattle.disk_model.specs.View.{LeavesOnly}
-use Rattle.segment_set.specs.Fits.{IsEmptyWhereNone}
+use Rattle.segment_set.specs.Fits.{IsEmptyWhereNone, without_room}
 use Rattle.log_model.specs.plain.Admission.{Admission, Item, Offered, Admitted, Refused}
 use Rattle.log_model.specs.hosted.Hosted.{hosted_admits, hosted_entry, hosted_told}
 use Rattle.log_model.specs.replay.Replay.{replay_entry}
@@ -23,52 +23,52 @@ use Rattle.host_recovery.proofs.host.Host.offer.Goals as goal
 pub returns-in-Ok-Repeat-clause-any_moment : goal.returns-in-Ok-Repeat-clause-any_moment
 returns-in-Ok-Repeat-clause-any_moment g c =
     subst (λ (h : HostState g.row.D.Denot g.row.M.Denot). IsTrue g.D.Disk.tells → (items : List Item) → StandsAt g.M.Machine.decides g.D.Disk.view g.M.Machine.cells h items → LeavesOnly (g.D.Disk.view h.disk) (g.D.Disk.view h.disk) (StandsOrTakes g.M.Machine.decides h.parts.name items (Offered c.args.one.now) (admits_stored (hosted_admits g.M.Machine.decides (hosted g.M.Machine.cells h.core) c.args.one.now) h.parts))) c.self.view_is
-    (λ t items at. stays_untaken g.M.Machine.decides g.D.Disk.view g.M.Machine.cells (record { disk = c.self.inside.disk; parts = c.self.inside.parts; core = c.self.inside.core; size = c.self.inside.size; stopped = c.self.inside.stopped }) items (Offered c.args.one.now) (admits_stored (hosted_admits g.M.Machine.decides (hosted g.M.Machine.cells c.self.inside.core) c.args.one.now) c.self.inside.parts) (g.met.D.Disk.sound c.self.inside.disk t) at (c.self.invariant.fits c.if-self.false t))
+    (λ t items at. stays_untaken g.M.Machine.decides g.D.Disk.view g.M.Machine.cells (record { disk = c.self.inside.disk; parts = without_room c.self.inside.parts; core = c.self.inside.core; size = c.self.inside.size; stopped = c.self.inside.stopped }) items (Offered c.args.one.now) (admits_stored (hosted_admits g.M.Machine.decides (hosted g.M.Machine.cells c.self.inside.core) c.args.one.now) c.self.inside.parts) (g.met.D.Disk.sound c.self.inside.disk t) at (c.self.invariant.fits c.if-self.false t).files)
 
 pub returns-in-Ok-Repeat-clause-empty : goal.returns-in-Ok-Repeat-clause-empty
 returns-in-Ok-Repeat-clause-empty g c =
     subst (λ (h : HostState g.row.D.Denot g.row.M.Denot). IsTrue g.D.Disk.tells → (items : List Item) → StandsAt g.M.Machine.decides g.D.Disk.view g.M.Machine.cells h items → IsEmptyWhereNone (g.D.Disk.view h.disk) h.parts.name) c.self.view_is
-    (λ t items at. stays_empty (g.D.Disk.view c.self.inside.disk) c.self.inside.parts (c.self.invariant.fits c.if-self.false t) at.held)
+    (λ t items at. stays_empty (g.D.Disk.view c.self.inside.disk) c.self.inside.parts (c.self.invariant.fits c.if-self.false t).files at.held)
 
 pub returns-in-Err-Refused-clause-any_moment : goal.returns-in-Err-Refused-clause-any_moment
 returns-in-Err-Refused-clause-any_moment g c =
     subst (λ (h : HostState g.row.D.Denot g.row.M.Denot). IsTrue g.D.Disk.tells → (items : List Item) → StandsAt g.M.Machine.decides g.D.Disk.view g.M.Machine.cells h items → LeavesOnly (g.D.Disk.view h.disk) (g.D.Disk.view h.disk) (StandsOrTakes g.M.Machine.decides h.parts.name items (Offered c.args.one.now) (admits_stored (hosted_admits g.M.Machine.decides (hosted g.M.Machine.cells h.core) c.args.one.now) h.parts))) c.self.view_is
-    (λ t items at. stays_untaken g.M.Machine.decides g.D.Disk.view g.M.Machine.cells (record { disk = c.self.inside.disk; parts = c.self.inside.parts; core = c.self.inside.core; size = c.self.inside.size; stopped = c.self.inside.stopped }) items (Offered c.args.one.now) (admits_stored (hosted_admits g.M.Machine.decides (hosted g.M.Machine.cells c.self.inside.core) c.args.one.now) c.self.inside.parts) (g.met.D.Disk.sound c.self.inside.disk t) at (c.self.invariant.fits c.if-self.false t))
+    (λ t items at. stays_untaken g.M.Machine.decides g.D.Disk.view g.M.Machine.cells (record { disk = c.self.inside.disk; parts = without_room c.self.inside.parts; core = c.self.inside.core; size = c.self.inside.size; stopped = c.self.inside.stopped }) items (Offered c.args.one.now) (admits_stored (hosted_admits g.M.Machine.decides (hosted g.M.Machine.cells c.self.inside.core) c.args.one.now) c.self.inside.parts) (g.met.D.Disk.sound c.self.inside.disk t) at (c.self.invariant.fits c.if-self.false t).files)
 
 pub returns-in-Err-Refused-clause-empty : goal.returns-in-Err-Refused-clause-empty
 returns-in-Err-Refused-clause-empty g c =
     subst (λ (h : HostState g.row.D.Denot g.row.M.Denot). IsTrue g.D.Disk.tells → (items : List Item) → StandsAt g.M.Machine.decides g.D.Disk.view g.M.Machine.cells h items → IsEmptyWhereNone (g.D.Disk.view h.disk) h.parts.name) c.self.view_is
-    (λ t items at. stays_empty (g.D.Disk.view c.self.inside.disk) c.self.inside.parts (c.self.invariant.fits c.if-self.false t) at.held)
+    (λ t items at. stays_empty (g.D.Disk.view c.self.inside.disk) c.self.inside.parts (c.self.invariant.fits c.if-self.false t).files at.held)
 
 pub returns-in-Err-NoMemory-clause-any_moment : goal.returns-in-Err-NoMemory-clause-any_moment
 returns-in-Err-NoMemory-clause-any_moment g c =
     subst (λ (h : HostState g.row.D.Denot g.row.M.Denot). IsTrue g.D.Disk.tells → (items : List Item) → StandsAt g.M.Machine.decides g.D.Disk.view g.M.Machine.cells h items → LeavesOnly (g.D.Disk.view h.disk) (g.D.Disk.view h.disk) (StandsOrTakes g.M.Machine.decides h.parts.name items (Offered c.args.one.now) (admits_stored (hosted_admits g.M.Machine.decides (hosted g.M.Machine.cells h.core) c.args.one.now) h.parts))) c.self.view_is
-    (λ t items at. stays_untaken g.M.Machine.decides g.D.Disk.view g.M.Machine.cells (record { disk = c.self.inside.disk; parts = c.self.inside.parts; core = c.self.inside.core; size = c.self.inside.size; stopped = c.self.inside.stopped }) items (Offered c.args.one.now) (admits_stored (hosted_admits g.M.Machine.decides (hosted g.M.Machine.cells c.self.inside.core) c.args.one.now) c.self.inside.parts) (g.met.D.Disk.sound c.self.inside.disk t) at (c.self.invariant.fits c.if-self.false t))
+    (λ t items at. stays_untaken g.M.Machine.decides g.D.Disk.view g.M.Machine.cells (record { disk = c.self.inside.disk; parts = without_room c.self.inside.parts; core = c.self.inside.core; size = c.self.inside.size; stopped = c.self.inside.stopped }) items (Offered c.args.one.now) (admits_stored (hosted_admits g.M.Machine.decides (hosted g.M.Machine.cells c.self.inside.core) c.args.one.now) c.self.inside.parts) (g.met.D.Disk.sound c.self.inside.disk t) at (c.self.invariant.fits c.if-self.false t).files)
 
 pub returns-in-Err-NoMemory-clause-empty : goal.returns-in-Err-NoMemory-clause-empty
 returns-in-Err-NoMemory-clause-empty g c =
     subst (λ (h : HostState g.row.D.Denot g.row.M.Denot). IsTrue g.D.Disk.tells → (items : List Item) → StandsAt g.M.Machine.decides g.D.Disk.view g.M.Machine.cells h items → IsEmptyWhereNone (g.D.Disk.view h.disk) h.parts.name) c.self.view_is
-    (λ t items at. stays_empty (g.D.Disk.view c.self.inside.disk) c.self.inside.parts (c.self.invariant.fits c.if-self.false t) at.held)
+    (λ t items at. stays_empty (g.D.Disk.view c.self.inside.disk) c.self.inside.parts (c.self.invariant.fits c.if-self.false t).files at.held)
 
 pub returns-in-Some-clause-any_moment : goal.returns-in-Some-clause-any_moment
 returns-in-Some-clause-any_moment g c =
     subst (λ (h : HostState g.row.D.Denot g.row.M.Denot). IsTrue g.D.Disk.tells → (items : List Item) → StandsAt g.M.Machine.decides g.D.Disk.view g.M.Machine.cells h items → LeavesOnly (g.D.Disk.view h.disk) (g.D.Disk.view h.disk) (StandsOrTakes g.M.Machine.decides h.parts.name items (Offered c.args.one.now) (admits_stored (hosted_admits g.M.Machine.decides (hosted g.M.Machine.cells h.core) c.args.one.now) h.parts))) c.self.view_is
-    (λ t items at. stays_untaken g.M.Machine.decides g.D.Disk.view g.M.Machine.cells (record { disk = c.self.inside.disk; parts = c.self.inside.parts; core = c.self.inside.core; size = c.self.inside.size; stopped = c.self.inside.stopped }) items (Offered c.args.one.now) (admits_stored (hosted_admits g.M.Machine.decides (hosted g.M.Machine.cells c.self.inside.core) c.args.one.now) c.self.inside.parts) (g.met.D.Disk.sound c.self.inside.disk t) at (c.self.invariant.fits c.if-self.false t))
+    (λ t items at. stays_untaken g.M.Machine.decides g.D.Disk.view g.M.Machine.cells (record { disk = c.self.inside.disk; parts = without_room c.self.inside.parts; core = c.self.inside.core; size = c.self.inside.size; stopped = c.self.inside.stopped }) items (Offered c.args.one.now) (admits_stored (hosted_admits g.M.Machine.decides (hosted g.M.Machine.cells c.self.inside.core) c.args.one.now) c.self.inside.parts) (g.met.D.Disk.sound c.self.inside.disk t) at (c.self.invariant.fits c.if-self.false t).files)
 
 pub returns-in-Some-clause-empty : goal.returns-in-Some-clause-empty
 returns-in-Some-clause-empty g c =
     subst (λ (h : HostState g.row.D.Denot g.row.M.Denot). IsTrue g.D.Disk.tells → (items : List Item) → StandsAt g.M.Machine.decides g.D.Disk.view g.M.Machine.cells h items → IsEmptyWhereNone (g.D.Disk.view h.disk) h.parts.name) c.self.view_is
-    (λ t items at. stays_empty (g.D.Disk.view c.self.inside.disk) c.self.inside.parts (c.self.invariant.fits c.if-self.false t) at.held)
+    (λ t items at. stays_empty (g.D.Disk.view c.self.inside.disk) c.self.inside.parts (c.self.invariant.fits c.if-self.false t).files at.held)
 
 pub returns-in-Err-clause-any_moment : goal.returns-in-Err-clause-any_moment
 returns-in-Err-clause-any_moment g c =
     subst (λ (h : HostState g.row.D.Denot g.row.M.Denot). IsTrue g.D.Disk.tells → (items : List Item) → StandsAt g.M.Machine.decides g.D.Disk.view g.M.Machine.cells h items → LeavesOnly (g.D.Disk.view h.disk) (g.D.Disk.view h.disk) (StandsOrTakes g.M.Machine.decides h.parts.name items (Offered c.args.one.now) (admits_stored (hosted_admits g.M.Machine.decides (hosted g.M.Machine.cells h.core) c.args.one.now) h.parts))) c.self.view_is
-    (λ t items at. stays_untaken g.M.Machine.decides g.D.Disk.view g.M.Machine.cells (record { disk = c.self.inside.disk; parts = c.self.inside.parts; core = c.self.inside.core; size = c.self.inside.size; stopped = c.self.inside.stopped }) items (Offered c.args.one.now) (admits_stored (hosted_admits g.M.Machine.decides (hosted g.M.Machine.cells c.self.inside.core) c.args.one.now) c.self.inside.parts) (g.met.D.Disk.sound c.self.inside.disk t) at (c.self.invariant.fits c.if-self.false t))
+    (λ t items at. stays_untaken g.M.Machine.decides g.D.Disk.view g.M.Machine.cells (record { disk = c.self.inside.disk; parts = without_room c.self.inside.parts; core = c.self.inside.core; size = c.self.inside.size; stopped = c.self.inside.stopped }) items (Offered c.args.one.now) (admits_stored (hosted_admits g.M.Machine.decides (hosted g.M.Machine.cells c.self.inside.core) c.args.one.now) c.self.inside.parts) (g.met.D.Disk.sound c.self.inside.disk t) at (c.self.invariant.fits c.if-self.false t).files)
 
 pub returns-in-Err-clause-empty : goal.returns-in-Err-clause-empty
 returns-in-Err-clause-empty g c =
     subst (λ (h : HostState g.row.D.Denot g.row.M.Denot). IsTrue g.D.Disk.tells → (items : List Item) → StandsAt g.M.Machine.decides g.D.Disk.view g.M.Machine.cells h items → IsEmptyWhereNone (g.D.Disk.view h.disk) h.parts.name) c.self.view_is
-    (λ t items at. stays_empty (g.D.Disk.view c.self.inside.disk) c.self.inside.parts (c.self.invariant.fits c.if-self.false t) at.held)
+    (λ t items at. stays_empty (g.D.Disk.view c.self.inside.disk) c.self.inside.parts (c.self.invariant.fits c.if-self.false t).files at.held)
 
 pub returns-in-Err-Refused-clause-answer : goal.returns-in-Err-Refused-clause-answer
 returns-in-Err-Refused-clause-answer g c = (

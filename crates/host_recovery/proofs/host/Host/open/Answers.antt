@@ -2,7 +2,7 @@ use Rattle.std.proofs.Common.{◌≡◌, refl, false, ℕ, List, Err, ap, subst,
 use Rattle.disk_model.proofs.Moments.{weaker}
 use Rattle.segment_files.specs.Folder.{StandsForPrefix, IsChoice, folder, entries_of}
 use Rattle.segment_set.specs.declared.opening.OpenError.TheVariants.{Damaged as Is_damaged}
-use Rattle.segment_set.specs.Fits.{Fits, IsHeld, parts_in}
+use Rattle.segment_set.specs.Fits.{parts_in, without_room}
 use Rattle.log_model.specs.hosted.Hosted.{hosted_stored, hosted_told}
 use Rattle.log_model.specs.replay.Replay.{replayed}
 use Rattle.host_core.specs.CoreState.{hosted}
@@ -14,13 +14,13 @@ use Rattle.host_recovery.proofs.host.Host.open.Goals as goal
 pub returns-in-Ok-clause-stands : goal.returns-in-Ok-clause-stands
 returns-in-Ok-clause-stands g c = λ t items least order.
     let name = c.in-Ok.ensures.name in
-    opens_at g.M.Machine.decides g.D.Disk.view g.M.Machine.cells (g.D.Disk.view c.args.disk) (record { disk = c.load.new.disk; parts = c.in-Ok.parts; core = c.load.new.core; size = c.args.segment; stopped = false }) items least
+    opens_at g.M.Machine.decides g.D.Disk.view g.M.Machine.cells (g.D.Disk.view c.args.disk) (record { disk = c.load.new.disk; parts = without_room c.in-Ok.parts; core = c.load.new.core; size = c.args.segment; stopped = false }) items least
     g.met.M.Machine.lawful g.met.M.Machine.one_owner (g.met.D.Disk.sound c.args.disk t)
     (subst (λ (n : List ℕ). IsInOrder (hosted_form g.M.Machine.decides) (g.D.Disk.view c.args.disk) n items least) (sym name) order) refl
-    (subst (λ (n : List ℕ). Fits (g.D.Disk.view c.load.new.disk) n c.in-Ok.parts.tail c.in-Ok.parts.greatest) (sym name) (c.in-Ok.ensures.fits t))
-    (subst (λ (n : List ℕ). IsChoice (folder n (g.D.Disk.view c.args.disk).reading) (parts_in (g.D.Disk.view c.load.new.disk).reading n c.in-Ok.parts.tail)) (sym name) (c.in-Ok.ensures.choice t))
-    (subst (λ (n : List ℕ). IsHeld (g.D.Disk.view c.load.new.disk) n c.in-Ok.parts.tail) (sym name) (c.in-Ok.ensures.held t order.empty))
-    (subst (λ (n : List ℕ). hosted g.M.Machine.cells c.load.new.core ≡ replayed (hosted_told g.M.Machine.decides) 0 (entries_of (parts_in (g.D.Disk.view c.load.new.disk).reading n c.in-Ok.parts.tail))) (sym name) (c.in-Ok.ensures.state t))
+    (c.in-Ok.ensures.fits t).files
+    (subst (λ (n : List ℕ). IsChoice (folder n (g.D.Disk.view c.args.disk).reading) (parts_in (g.D.Disk.view c.load.new.disk).reading c.in-Ok.parts)) (sym name) (c.in-Ok.ensures.choice t))
+    (c.in-Ok.ensures.held t order.empty)
+    (c.in-Ok.ensures.state t)
 
 pub returns-in-Ok-clause-any_moment : goal.returns-in-Ok-clause-any_moment
 returns-in-Ok-clause-any_moment g c = λ t items least order.
@@ -47,4 +47,4 @@ returns-in-Ok-clause-lies g c = λ t.
 
 pub returns-in-Ok-clause-faultless : goal.returns-in-Ok-clause-faultless
 returns-in-Ok-clause-faultless g c = λ t id at fault.
-    none_at_fault (g.D.Disk.view c.args.disk) (g.D.Disk.view c.load.new.disk) c.args.name.now c.in-Ok.parts.tail c.in-Ok.parts.greatest id at (c.in-Ok.ensures.fits t) (c.in-Ok.ensures.choice t) fault
+    none_at_fault (g.D.Disk.view c.args.disk) (g.D.Disk.view c.load.new.disk) c.args.name.now c.in-Ok.parts.name c.in-Ok.parts.tail c.in-Ok.parts.greatest id at (c.in-Ok.ensures.fits t).files (c.in-Ok.ensures.choice t) fault

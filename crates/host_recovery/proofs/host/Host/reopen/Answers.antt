@@ -5,7 +5,7 @@ use Rattle.segment_files.specs.Folder.{StandsForPrefix, IsChoice, IsFault, folde
 use Rattle.disk_model.specs.Image.{Image}
 use Rattle.disk_model.specs.View.{LeavesAt, LeavesOnly, MayHold}
 use Rattle.segment_set.specs.declared.opening.OpenError.TheVariants.{Damaged as Is_damaged}
-use Rattle.segment_set.specs.Fits.{Fits, IsEmptyWhereNone, IsHeld, parts_in}
+use Rattle.segment_set.specs.Fits.{FilesFit, IsEmptyWhereNone, IsTailHeld, parts_in, tail_parts, without_room}
 use Rattle.segment_set.specs.Opening.{id_from}
 use Rattle.log_model.specs.plain.Admission.{Item}
 use Rattle.log_model.specs.hosted.Hosted.{hosted_stored, hosted_told}
@@ -25,39 +25,39 @@ use Rattle.host_recovery.proofs.host.Host.reopen.Goals as goal
 
 pub returns-in-Ok-clause-stands : goal.returns-in-Ok-clause-stands
 returns-in-Ok-clause-stands g c =
-    subst (λ (h : HostState g.row.D.Denot g.row.M.Denot). IsTrue g.D.Disk.tells → (items : List Item) → StandsAt g.M.Machine.decides g.D.Disk.view g.M.Machine.cells h items → StandsAt g.M.Machine.decides g.D.Disk.view g.M.Machine.cells (record { disk = c.load.new.disk; parts = c.in-Ok.parts; core = c.load.new.core; size = c.self.inside.size; stopped = false }) items) c.self.view_is
+    subst (λ (h : HostState g.row.D.Denot g.row.M.Denot). IsTrue g.D.Disk.tells → (items : List Item) → StandsAt g.M.Machine.decides g.D.Disk.view g.M.Machine.cells h items → StandsAt g.M.Machine.decides g.D.Disk.view g.M.Machine.cells (record { disk = c.load.new.disk; parts = without_room c.in-Ok.parts; core = c.load.new.core; size = c.self.inside.size; stopped = false }) items) c.self.view_is
     (λ t items at.
-    let fits = c.self.invariant.fits at.runs t in
-    stands_again g.M.Machine.decides g.D.Disk.view g.M.Machine.cells (record { disk = c.self.inside.disk; parts = c.self.inside.parts; core = c.self.inside.core; size = c.self.inside.size; stopped = c.self.inside.stopped }) items at fits (record { disk = c.load.new.disk; parts = c.in-Ok.parts; core = c.load.new.core; size = c.self.inside.size; stopped = false }) g.met.M.Machine.lawful g.met.M.Machine.one_owner (g.met.D.Disk.sound c.self.inside.disk t) c.in-Ok.ensures.name refl
-    (c.in-Ok.ensures.fits t) (c.in-Ok.ensures.choice t) (c.in-Ok.ensures.held t (stays_empty (g.D.Disk.view c.self.inside.disk) c.self.inside.parts fits at.held)) (c.in-Ok.ensures.state t))
+    let fits = (c.self.invariant.fits at.runs t).files in
+    stands_again g.M.Machine.decides g.D.Disk.view g.M.Machine.cells (record { disk = c.self.inside.disk; parts = without_room c.self.inside.parts; core = c.self.inside.core; size = c.self.inside.size; stopped = c.self.inside.stopped }) items at fits (record { disk = c.load.new.disk; parts = without_room c.in-Ok.parts; core = c.load.new.core; size = c.self.inside.size; stopped = false }) g.met.M.Machine.lawful g.met.M.Machine.one_owner (g.met.D.Disk.sound c.self.inside.disk t) c.in-Ok.ensures.name refl
+    (c.in-Ok.ensures.fits t).files (c.in-Ok.ensures.choice t) (c.in-Ok.ensures.held t (stays_empty (g.D.Disk.view c.self.inside.disk) c.self.inside.parts fits at.held)) (c.in-Ok.ensures.state t))
 
 pub returns-in-Ok-clause-layout : goal.returns-in-Ok-clause-layout
 returns-in-Ok-clause-layout g c =
     subst (λ (h : HostState g.row.D.Denot g.row.M.Denot). IsTrue g.D.Disk.tells → (items : List Item) → StandsAt g.M.Machine.decides g.D.Disk.view g.M.Machine.cells h items → layout_in (g.D.Disk.view c.load.new.disk) c.in-Ok.parts ≡ alone (layout_in (g.D.Disk.view h.disk) h.parts)) c.self.view_is
-    (λ t items at. lie_as_before (g.D.Disk.view c.self.inside.disk) (g.D.Disk.view c.load.new.disk) c.self.inside.parts c.in-Ok.parts (c.self.invariant.fits at.runs t) c.in-Ok.ensures.name (c.in-Ok.ensures.choice t) (c.in-Ok.ensures.greatest t))
+    (λ t items at. lie_as_before (g.D.Disk.view c.self.inside.disk) (g.D.Disk.view c.load.new.disk) c.self.inside.parts c.in-Ok.parts (c.self.invariant.fits at.runs t).files c.in-Ok.ensures.name (c.in-Ok.ensures.choice t) (c.in-Ok.ensures.greatest t))
 
 pub returns-in-Ok-clause-any_moment : goal.returns-in-Ok-clause-any_moment
 returns-in-Ok-clause-any_moment g c =
     subst (λ (h : HostState g.row.D.Denot g.row.M.Denot). IsTrue g.D.Disk.tells → (items : List Item) → StandsAt g.M.Machine.decides g.D.Disk.view g.M.Machine.cells h items → LeavesOnly (g.D.Disk.view h.disk) (g.D.Disk.view c.load.new.disk) (λ (image : Image). StandsFor (hosted_form g.M.Machine.decides) h.parts.name image items)) c.self.view_is
-    (λ t items at. leaves_whole g.M.Machine.decides g.D.Disk.view g.M.Machine.cells (record { disk = c.self.inside.disk; parts = c.self.inside.parts; core = c.self.inside.core; size = c.self.inside.size; stopped = c.self.inside.stopped }) items at (c.self.invariant.fits at.runs t) (g.D.Disk.view c.load.new.disk) (λ least order. c.load.ensures.any_moment t (hosted_stored g.M.Machine.decides items) least order))
+    (λ t items at. leaves_whole g.M.Machine.decides g.D.Disk.view g.M.Machine.cells (record { disk = c.self.inside.disk; parts = without_room c.self.inside.parts; core = c.self.inside.core; size = c.self.inside.size; stopped = c.self.inside.stopped }) items at (c.self.invariant.fits at.runs t).files (g.D.Disk.view c.load.new.disk) (λ least order. c.load.ensures.any_moment t (hosted_stored g.M.Machine.decides items) least order))
 
 pub returns-in-Err-clause-any_moment : goal.returns-in-Err-clause-any_moment
 returns-in-Err-clause-any_moment g c =
     subst (λ (h : HostState g.row.D.Denot g.row.M.Denot). IsTrue g.D.Disk.tells → (items : List Item) → StandsAt g.M.Machine.decides g.D.Disk.view g.M.Machine.cells h items → LeavesOnly (g.D.Disk.view h.disk) (g.D.Disk.view c.load.new.disk) (λ (image : Image). StandsFor (hosted_form g.M.Machine.decides) h.parts.name image items)) c.self.view_is
-    (λ t items at. leaves_whole g.M.Machine.decides g.D.Disk.view g.M.Machine.cells (record { disk = c.self.inside.disk; parts = c.self.inside.parts; core = c.self.inside.core; size = c.self.inside.size; stopped = c.self.inside.stopped }) items at (c.self.invariant.fits at.runs t) (g.D.Disk.view c.load.new.disk) (λ least order. c.load.ensures.any_moment t (hosted_stored g.M.Machine.decides items) least order))
+    (λ t items at. leaves_whole g.M.Machine.decides g.D.Disk.view g.M.Machine.cells (record { disk = c.self.inside.disk; parts = without_room c.self.inside.parts; core = c.self.inside.core; size = c.self.inside.size; stopped = c.self.inside.stopped }) items at (c.self.invariant.fits at.runs t).files (g.D.Disk.view c.load.new.disk) (λ least order. c.load.ensures.any_moment t (hosted_stored g.M.Machine.decides items) least order))
 
 pub returns-in-Ok-clause-opens : goal.returns-in-Ok-clause-opens
 returns-in-Ok-clause-opens g c =
-    subst (λ (h : HostState g.row.D.Denot g.row.M.Denot). IsTrue g.D.Disk.tells → (items : List Item) (least : ℕ) → IsInOrder (hosted_form g.M.Machine.decides) (g.D.Disk.view h.disk) h.parts.name items least → OpensAt g.M.Machine.decides g.D.Disk.view g.M.Machine.cells (g.D.Disk.view h.disk) items least (record { disk = c.load.new.disk; parts = c.in-Ok.parts; core = c.load.new.core; size = c.self.inside.size; stopped = false })) c.self.view_is
+    subst (λ (h : HostState g.row.D.Denot g.row.M.Denot). IsTrue g.D.Disk.tells → (items : List Item) (least : ℕ) → IsInOrder (hosted_form g.M.Machine.decides) (g.D.Disk.view h.disk) h.parts.name items least → OpensAt g.M.Machine.decides g.D.Disk.view g.M.Machine.cells (g.D.Disk.view h.disk) items least (record { disk = c.load.new.disk; parts = without_room c.in-Ok.parts; core = c.load.new.core; size = c.self.inside.size; stopped = false })) c.self.view_is
     (λ t items least order.
     let name = c.in-Ok.ensures.name in
-    opens_at g.M.Machine.decides g.D.Disk.view g.M.Machine.cells (g.D.Disk.view c.self.inside.disk) (record { disk = c.load.new.disk; parts = c.in-Ok.parts; core = c.load.new.core; size = c.self.inside.size; stopped = false }) items least
+    opens_at g.M.Machine.decides g.D.Disk.view g.M.Machine.cells (g.D.Disk.view c.self.inside.disk) (record { disk = c.load.new.disk; parts = without_room c.in-Ok.parts; core = c.load.new.core; size = c.self.inside.size; stopped = false }) items least
     g.met.M.Machine.lawful g.met.M.Machine.one_owner (g.met.D.Disk.sound c.self.inside.disk t)
     (subst (λ (n : List ℕ). IsInOrder (hosted_form g.M.Machine.decides) (g.D.Disk.view c.self.inside.disk) n items least) (sym name) order) refl
-    (subst (λ (n : List ℕ). Fits (g.D.Disk.view c.load.new.disk) n c.in-Ok.parts.tail c.in-Ok.parts.greatest) (sym name) (c.in-Ok.ensures.fits t))
-    (subst (λ (n : List ℕ). IsChoice (folder n (g.D.Disk.view c.self.inside.disk).reading) (parts_in (g.D.Disk.view c.load.new.disk).reading n c.in-Ok.parts.tail)) (sym name) (c.in-Ok.ensures.choice t))
-    (subst (λ (n : List ℕ). IsHeld (g.D.Disk.view c.load.new.disk) n c.in-Ok.parts.tail) (sym name) (c.in-Ok.ensures.held t order.empty))
-    (subst (λ (n : List ℕ). hosted g.M.Machine.cells c.load.new.core ≡ replayed (hosted_told g.M.Machine.decides) 0 (entries_of (parts_in (g.D.Disk.view c.load.new.disk).reading n c.in-Ok.parts.tail))) (sym name) (c.in-Ok.ensures.state t)))
+    (c.in-Ok.ensures.fits t).files
+    (subst (λ (n : List ℕ). IsChoice (folder n (g.D.Disk.view c.self.inside.disk).reading) (parts_in (g.D.Disk.view c.load.new.disk).reading c.in-Ok.parts)) (sym name) (c.in-Ok.ensures.choice t))
+    (c.in-Ok.ensures.held t order.empty)
+    (c.in-Ok.ensures.state t))
 
 pub returns-in-Ok-clause-lies : goal.returns-in-Ok-clause-lies
 returns-in-Ok-clause-lies g c =
@@ -67,7 +67,7 @@ returns-in-Ok-clause-lies g c =
 pub returns-in-Ok-clause-faultless : goal.returns-in-Ok-clause-faultless
 returns-in-Ok-clause-faultless g c =
     subst (λ (h : HostState g.row.D.Denot g.row.M.Denot). IsTrue g.D.Disk.tells → (id : FileId) (at : ℕ) → IsFault (folder h.parts.name (g.D.Disk.view h.disk).reading) id at → ⊥) c.self.view_is
-    (λ t id at fault. none_at_fault (g.D.Disk.view c.self.inside.disk) (g.D.Disk.view c.load.new.disk) c.self.inside.parts.name c.in-Ok.parts.tail c.in-Ok.parts.greatest id at (c.in-Ok.ensures.fits t) (c.in-Ok.ensures.choice t) fault)
+    (λ t id at fault. none_at_fault (g.D.Disk.view c.self.inside.disk) (g.D.Disk.view c.load.new.disk) c.self.inside.parts.name c.in-Ok.parts.name c.in-Ok.parts.tail c.in-Ok.parts.greatest id at (c.in-Ok.ensures.fits t).files (c.in-Ok.ensures.choice t) fault)
 
 pub returns-in-Ok-clause-leaves : goal.returns-in-Ok-clause-leaves
 returns-in-Ok-clause-leaves g c =
@@ -114,4 +114,4 @@ returns-in-Err-clause-undamaged g c = λ base generation at err.
     let e : c.in-Err.error ≡ Is_damaged base generation at = cc err in
     let damaged = c.load.ensures.damaged base generation at (c.in-Err.is ∙ ap Err e) in
     subst (λ (h : HostState g.row.D.Denot g.row.M.Denot). IsTrue g.D.Disk.tells → h.stopped ≡ false → ⊥) c.self.view_is
-    (λ t runs. fits_no_fault (g.D.Disk.view c.self.inside.disk) c.self.inside.parts.name c.self.inside.parts.tail c.self.inside.parts.greatest (id_from base generation) at (c.self.invariant.fits runs t) (damaged t).0)
+    (λ t runs. fits_no_fault (g.D.Disk.view c.self.inside.disk) c.self.inside.parts.name c.self.inside.parts.tail c.self.inside.parts.greatest (id_from base generation) at (c.self.invariant.fits runs t).files (damaged t).0)
