@@ -1,1 +1,1 @@
-mod DeskLaws
+pub mod DeskLaws

@@ -1,3 +1,4 @@
+pub mod Benches
 pub mod Desks
 pub mod Machines
 pub mod Tellers

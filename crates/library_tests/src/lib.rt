@@ -4,6 +4,8 @@
 #[cfg(test)]
 mod asks;
 #[cfg(test)]
+mod cell_table_tests;
+#[cfg(test)]
 mod checks;
 #[cfg(test)]
 mod commit_lending_tests;
@@ -33,6 +35,8 @@ mod machine_tests;
 mod machines;
 #[cfg(test)]
 mod offset_index_tests;
+#[cfg(test)]
+mod plain_cells;
 #[cfg(test)]
 mod resource_catalog_tests;
 #[cfg(test)]

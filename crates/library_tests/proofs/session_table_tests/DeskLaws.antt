@@ -135,7 +135,7 @@ lends t before lent next sound more =
       free = λ j l. let a = more j in let b = sound.free j (omega (arith, l)) in let c = other_index next j l in omega (arith, a, b, c);
     }
 
-free_after : (was held : ℕ → ℕ) (by : ℕ) (before now : Lent) (j : ℕ) → AreOut was before → Releases was held by before now → tokens before j ≡ 0 → tokens now j ≡ 0
+pub free_after : (was held : ℕ → ℕ) (by : ℕ) (before now : Lent) (j : ℕ) → AreOut was before → Releases was held by before now → tokens before j ≡ 0 → tokens now j ≡ 0
 free_after was held by before now j out step none =
     let a = holds_nothing was before j out none in
     let b = step.none_new j a in
