@@ -26,7 +26,7 @@ pub parts_are : (v : View) (name : List ℕ) (tail : Option Tail) (greatest : �
 parts_are v name None greatest fits = are_none
 parts_are v name (Some tail) greatest fits =
     let t = fits.tail_is in
-    subst (λ (ps : List Part). AreOf ps (log_of ps)) (sym (list_at v name tail t.part t.whole)) (one_is v name tail t.part t.whole)
+    subst (λ (ps : List Part). AreOf ps (log_of ps)) (sym (list_at v name tail t.part t.at.whole)) (one_is v name tail t.part t.at.whole)
 
 -- what a crash leaves stands for the log that is shown
 pub stands_now : (v : View) (name : List ℕ) (tail : Option Tail) (greatest : ℕ) → FilesFit v name tail greatest → IsTailHeld v name tail → (image : Image) → MayLeave v image → Stands (folder name image) (log_of (tail_parts v.reading name tail))
@@ -65,7 +65,7 @@ gains : (v : View) (name : List ℕ) (tail : Option Tail) (greatest size : ℕ) 
 gains v name None greatest size entry fits = begins size greatest (frame_size 1 entry) (first_id (greatest + 1)) entry refl refl
 gains v name (Some tail) greatest size entry fits =
     let t = fits.tail_is in
-    subst (λ (ps : List Part). shows (gained size greatest ps entry) greatest ≡ more size entry (shows ps greatest)) (sym (list_at v name tail t.part t.whole))
+    subst (λ (ps : List Part). shows (gained size greatest ps entry) greatest ≡ more size entry (shows ps greatest)) (sym (list_at v name tail t.part t.at.whole))
     (grows size greatest (frame_size (t.part.last + 1) entry) t.part entry)
 
 -- what the files show once an entry was appended

@@ -25,7 +25,7 @@ pub needs_file_is : (v : View) (name : List ℕ) (tail : Option Tail) (greatest 
 needs_file_is v name None greatest fits = refl
 needs_file_is v name (Some tail) greatest fits =
     let t = fits.tail_is in
-    ap (λ (ps : List Part). needs_file (record { parts = map part_layout ps; greatest = greatest })) (list_at v name tail t.part t.whole)
+    ap (λ (ps : List Part). needs_file (record { parts = map part_layout ps; greatest = greatest })) (list_at v name tail t.part t.at.whole)
 
 -- WHICH FILES THERE ARE
 some_whole : (v : View) (name : List ℕ) (tail : Tail) (part : Part) → folder name v.reading tail.id ≡ Whole part → ((id : FileId) → IsListed v (place name id) → id ≡ tail.id) → IsChoice (folder name v.reading) (part ∷ [])
@@ -66,15 +66,15 @@ pub choice_is : (v : View) (name : List ℕ) (tail : Option Tail) (greatest : �
 choice_is v name None greatest fits = none_whole v name fits.only
 choice_is v name (Some tail) greatest fits =
     let t = fits.tail_is in
-    subst (IsChoice (folder name v.reading)) (sym (list_at v name tail t.part t.whole)) (some_whole v name tail t.part t.whole fits.only)
+    subst (IsChoice (folder name v.reading)) (sym (list_at v name tail t.part t.at.whole)) (some_whole v name tail t.part t.at.whole fits.only)
 
 greatest_is : (v : View) (name : List ℕ) (tail : Option Tail) (greatest : ℕ) → FilesFit v name tail greatest → IsGreatest v.reading name (greatest_of (map part_layout (tail_parts v.reading name tail)))
 greatest_is v name None greatest fits = record { above = λ id there. absurd (fits.only id there); taken = inl refl }
 greatest_is v name (Some tail) greatest fits =
     let t = fits.tail_is in
-    let b = bytes_of_whole v name tail.id t.part t.whole in
-    let is : greatest_of (map part_layout (t.part ∷ [])) ≡ tail.id.generation = omega (arith, ap (λ (i : FileId). i.generation) (whole_plain v name tail.id t.part t.whole).id_is) in
-    subst (λ (ps : List Part). IsGreatest v.reading name (greatest_of (map part_layout ps))) (sym (list_at v name tail t.part t.whole))
+    let b = bytes_of_whole v name tail.id t.part t.at.whole in
+    let is : greatest_of (map part_layout (t.part ∷ [])) ≡ tail.id.generation = omega (arith, ap (λ (i : FileId). i.generation) (whole_plain v name tail.id t.part t.at.whole).id_is) in
+    subst (λ (ps : List Part). IsGreatest v.reading name (greatest_of (map part_layout ps))) (sym (list_at v name tail t.part t.at.whole))
     (record {
       above = λ id there. omega (arith, is, ap (λ (i : FileId). i.generation) (fits.only id there));
       taken = inr (tail.id, (b.0, b.1), sym is);
@@ -85,9 +85,9 @@ only_is : (v : View) (name : List ℕ) (tail : Option Tail) (greatest : ℕ) →
 only_is v name None greatest fits id there = absurd (fits.only id there)
 only_is v name (Some tail) greatest fits id there =
     let t = fits.tail_is in
-    let is : t.part.id ≡ id = (whole_plain v name tail.id t.part t.whole).id_is ∙ sym (fits.only id there) in (
+    let is : t.part.id ≡ id = (whole_plain v name tail.id t.part t.at.whole).id_is ∙ sym (fits.only id there) in (
       part_layout t.part,
-      subst (λ (ps : List Part). Contains (map part_layout ps) (part_layout t.part)) (sym (list_at v name tail t.part t.whole)) (here (part_layout t.part) []),
+      subst (λ (ps : List Part). Contains (map part_layout ps) (part_layout t.part)) (sym (list_at v name tail t.part t.at.whole)) (here (part_layout t.part) []),
       ap (λ (i : FileId). i.base) is,
       ap (λ (i : FileId). i.generation) is,
     )
@@ -135,5 +135,5 @@ none_at_fault v w name now tail greatest id at fits choice fault = no_fault v na
     based None fits p has = absurd (nothing p has)
     based (Some tail) fits p has =
         let t = fits.tail_is in
-        let one = subst (λ (ps : List Part). Contains ps p) (list_at w now tail t.part t.whole) has in
-        ap (λ (r : Part). r.id.base) (sym (only_one t.part p one)) ∙ ap (λ (i : FileId). i.base) (whole_plain w now tail.id t.part t.whole).id_is ∙ tail.base_is
+        let one = subst (λ (ps : List Part). Contains ps p) (list_at w now tail t.part t.at.whole) has in
+        ap (λ (r : Part). r.id.base) (sym (only_one t.part p one)) ∙ ap (λ (i : FileId). i.base) (whole_plain w now tail.id t.part t.at.whole).id_is ∙ tail.base_is

@@ -26,11 +26,13 @@ tail_stays : (v w : View) (name : List ℕ) (tail : Option Tail) → Stays v w �
 tail_stays v w name None stays t = t
 tail_stays v w name (Some tail) stays t = record {
   part = t.part;
-  whole = ap (λ (r : Image). folder name r tail.id) stays.reading ∙ t.whole;
-  last = t.last;
-  gate = t.gate;
-  size = t.size;
-  at_gate = gate_stays v w (place name tail.id) tail.gate stays t.at_gate;
+  at = record {
+    whole = ap (λ (r : Image). folder name r tail.id) stays.reading ∙ t.at.whole;
+    last = t.at.last;
+    gate = t.at.gate;
+    size = t.at.size;
+    at_gate = gate_stays v w (place name tail.id) tail.gate stays t.at.at_gate;
+  };
 }
 
 was_listed : (v w : View) (name : List ℕ) (id : FileId) → Stays v w → IsListed w (place name id) → IsListed v (place name id)

@@ -3,10 +3,9 @@ ghost use Rattle.std.specs.Prelude.{◌≡◌, ◌≤◌, ◌+◌, ℕ, List, []
 ghost use Rattle.disk_model.specs.declared.file_id.FileId.{FileId};
 ghost use Rattle.disk_model.specs.View.{LeavesAt, LeavesOnly, MayHold};
 ghost use Rattle.disk_model.specs.Calls.{Looks};
-ghost use Rattle.segment_files.specs.Parse.{Numbered, Part, Whole};
 ghost use Rattle.segment_files.specs.Folder.{folder, entries_of, IsChoice, IsFault, StandsForPrefix};
 ghost use Rattle.host_types.specs.declared.entry.Entry.{Entry};
-ghost use Rattle.segment_set.specs.Fits.{Fits, IsEmptyWhereNone, IsHeld, IsInOrder as FilesAreInOrder, KeepsNames, TailFits, last_of, parts_in};
+ghost use Rattle.segment_set.specs.Fits.{Fits, IsEmptyWhereNone, IsHeld, IsInOrder as FilesAreInOrder, KeepsNames, last_of, parts_in};
 ghost use Rattle.segment_set.specs.Opening.{HasOpenCause, IsGreatestListed, id_from};
 ghost use Rattle.log_model.specs.plain.Admission.{Item};
 ghost use Rattle.log_model.specs.hosted.Hosted.{hosted_nothing, hosted_told};

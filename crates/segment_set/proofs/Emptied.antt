@@ -75,5 +75,5 @@ pub held_empty : (v : View) (name : List â„•) (tail : Option Tail) (greatest : â
 held_empty v name None greatest fits held none = held
 held_empty v name (Some tail) greatest fits held none =
     let t = fits.tail_is in
-    let b = bytes_of_whole v name tail.id t.part t.whole in
+    let b = bytes_of_whole v name tail.id t.part t.at.whole in
     absurd (none tail.id (b.0, b.1))

@@ -27,7 +27,7 @@ module _ (v : View) (parts : Parts) (tail : Tail) (some : parts.tail ≡ Some ta
   os = parts.offsets.items
 
   pub tail_is : (p : Part) × (folder name v.reading tail.id ≡ Whole p) × (p.gate ≡ tail.gate)
-  tail_is = let t = tail_fits v name parts.tail parts.greatest tail some fits.files in (t.part, t.whole, t.gate)
+  tail_is = let t = tail_fits v name parts.tail parts.greatest tail some fits.files in (t.part, t.at.whole, t.at.gate)
 
   abbrev part : Part
   part = tail_is.0

@@ -68,16 +68,16 @@ frame_back last bytes entry room f =
 pub appendable : (v : View) (name : List ℕ) (tail : Tail) (part : Part) (bytes : List ℕ) (entry : Entry) → TailFits v name tail → folder name v.reading tail.id ≡ Whole part → tail.last < last_limit
     → (f : IsFrameFor tail.last bytes entry) → Appendable v name part tail.gate (behind tail.last entry) ((part.last + 1, entry) ∷ []) × (part.id ≡ tail.id) × (part.last ≡ tail.last) × (part.size ≡ tail.size)
 appendable v name tail part bytes entry fits whole room f =
-    let same : fits.part ≡ part = cc (fits.whole, whole) in
-    let last : part.last ≡ tail.last = sym (ap (λ (p : Part). p.last) same) ∙ fits.last in
+    let same : fits.part ≡ part = cc (fits.at.whole, whole) in
+    let last : part.last ≡ tail.last = sym (ap (λ (p : Part). p.last) same) ∙ fits.at.last in
     let id : part.id ≡ tail.id = folder_id name v.reading tail.id part whole in (
       record {
-        gate_is = sym (ap (λ (p : Part). p.gate) same) ∙ fits.gate;
+        gate_is = sym (ap (λ (p : Part). p.gate) same) ∙ fits.at.gate;
         is_frame = subst (λ (k : ℕ). frame is_next frame_room k (behind tail.last entry) ≡ Framed ((k + 1, entry) ∷ []) (length (behind tail.last entry))) (sym last) (frame_back tail.last bytes entry room f);
-        at_gate = subst (λ (i : FileId). IsAtGate v (place name i) tail.gate) (sym id) fits.at_gate;
+        at_gate = subst (λ (i : FileId). IsAtGate v (place name i) tail.gate) (sym id) fits.at.at_gate;
         whole = ap (folder name v.reading) id ∙ whole;
       },
       id,
       last,
-      sym (ap (λ (p : Part). p.size) same) ∙ fits.size,
+      sym (ap (λ (p : Part). p.size) same) ∙ fits.at.size,
     )

@@ -88,7 +88,7 @@ list_at v name tail p whole = ap part_list whole
 pub fits_at : (v w : View) (name : List ℕ) (tail : Option Tail) (greatest : ℕ) (next : Tail) (p : Part) (greatest' : ℕ) → FilesFit v name tail greatest → KeepsOthers v w (place name next.id)
     → IsTailAt w name next p → ((id : FileId) → IsListed v (place name id) → id ≡ next.id) → next.id.generation ≤ greatest' → FilesFit w name (Some next) greatest'
 fits_at v w name tail greatest next p greatest' fits keeps at only low = record {
-  tail_is = record { part = p; whole = at.whole; last = at.last; gate = at.gate; size = at.size; at_gate = at.at_gate };
+  tail_is = record { part = p; at = at };
   only = λ id listed. is_next id listed;
   generations = λ id listed. subst (λ (i : FileId). i.generation ≤ greatest') (sym (is_next id listed)) low;
 }

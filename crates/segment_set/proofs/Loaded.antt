@@ -100,11 +100,13 @@ module _ (v0 v1 v2 v3 : View) (name : List ℕ) (ids closed : List FileId) where
       record {
         tail_is = record {
           part = part;
-          whole = ap (folder name v3.reading) id_is ∙ whole3;
-          last = sym f.1.2.last ∙ sym f.2.1;
-          gate = sym f.1.2.gate ∙ sym f.2.2;
-          size = sym size ∙ sym f.2.3;
-          at_gate = subst (λ (i : FileId). IsAtGate v3 (place name i) tail.gate) (sym id_is) (subst (λ (k : ℕ). IsAtGate v3 (place name one.id) k) (sym f.1.2.gate ∙ sym f.2.2) gate3);
+          at = record {
+            whole = ap (folder name v3.reading) id_is ∙ whole3;
+            last = sym f.1.2.last ∙ sym f.2.1;
+            gate = sym f.1.2.gate ∙ sym f.2.2;
+            size = sym size ∙ sym f.2.3;
+            at_gate = subst (λ (i : FileId). IsAtGate v3 (place name i) tail.gate) (sym id_is) (subst (λ (k : ℕ). IsAtGate v3 (place name one.id) k) (sym f.1.2.gate ∙ sym f.2.2) gate3);
+          };
         };
         only = λ id listed. let same : one.id ≡ id = cc (only_opened v0 v1 v2 v3 name ids closed (Some one.id) f.0 id listed) in sym same ∙ sym id_is;
         generations = λ id listed. above id (listed_before (Some one) (Some tail) f id listed);

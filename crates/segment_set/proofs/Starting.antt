@@ -14,7 +14,7 @@ use Rattle.segment_set.specs.Tails.{tail_last}
 use Rattle.segment_set.proofs.Gaining.{while_made, made_and_pushed, list_at, fits_at}
 
 pub fits_when_at : (v : View) (name : List ℕ) (tail : Tail) (p : Part) → IsTailAt v name tail p → TailFits v name tail
-fits_when_at v name tail p at = record { part = p; whole = at.whole; last = at.last; gate = at.gate; size = at.size; at_gate = at.at_gate }
+fits_when_at v name tail p at = record { part = p; at = at }
 
 -- the same under an equal name
 pub at_name : (v : View) (name name' : List ℕ) (tail : Tail) (p : Part) → name' ≡ name → IsTailAt v name tail p → IsTailAt v name' tail p

@@ -32,14 +32,18 @@ bare entries = map (λ (e : ℕ × Entry). e.1) entries
 abbrev pub log_of : List Part → List Entry
 log_of parts = bare (entries_of parts)
 
--- the tail is a file of the folder, and its first gate that isn't open stands where the next frame goes
-pub record TailFits (v : View) (name : List ℕ) (tail : Tail) : Type 0 where
-  pub part : Part
+-- the tail is this part, and its first gate that isn't open stands where the next frame goes
+pub record IsTailAt (v : View) (name : List ℕ) (tail : Tail) (part : Part) : Type 0 where
   pub whole : folder name v.reading tail.id ≡ Whole part
   pub last : part.last ≡ tail.last
   pub gate : part.gate ≡ tail.gate
   pub size : part.size ≡ tail.size
   pub at_gate : IsAtGate v (place name tail.id) tail.gate
+
+-- the tail is a part of the folder
+pub record TailFits (v : View) (name : List ℕ) (tail : Tail) : Type 0 where
+  pub part : Part
+  pub at : IsTailAt v name tail part
 
 abbrev pub TailIs : View → List ℕ → Option Tail → Type 0
 TailIs v name None = Unit {0}
@@ -133,14 +137,6 @@ pub record IsFrameFor (last : ℕ) (frame : List ℕ) (entry : Entry) : Type 0 w
 -- how many bytes a frame has with this entry alone
 abbrev pub frame_size : ℕ → Entry → ℕ
 frame_size index entry = length (frame_bytes ((index, entry) ∷ []))
-
--- the tail is this part, and its first gate that isn't open stands where the next frame goes
-pub record IsTailAt (v : View) (name : List ℕ) (tail : Tail) (part : Part) : Type 0 where
-  pub whole : folder name v.reading tail.id ≡ Whole part
-  pub last : part.last ≡ tail.last
-  pub gate : part.gate ≡ tail.gate
-  pub size : part.size ≡ tail.size
-  pub at_gate : IsAtGate v (place name tail.id) tail.gate
 
 -- a part with the next entry, in a frame of its own
 abbrev pub with_entry : Part → Entry → Part

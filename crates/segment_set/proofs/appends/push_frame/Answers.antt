@@ -7,7 +7,7 @@ use Rattle.segment_set.proofs.Pushing.{push_left, push_held, push_reads, push_ga
 use Rattle.segment_set.proofs.appends.push_frame.Goals as goal
 
 pub append_frame-requires-clause-at_gate : goal.append_frame-requires-clause-at_gate
-append_frame-requires-clause-at_gate g c = λ t. (c.requires.fits t).at_gate
+append_frame-requires-clause-at_gate g c = λ t. (c.requires.fits t).at.at_gate
 
 pub append_frame-requires-clause-open : goal.append_frame-requires-clause-open
 append_frame-requires-clause-open g c =

@@ -17,8 +17,8 @@ pub returns-in-Ok-clause-parts : goal.returns-in-Ok-clause-parts
 returns-in-Ok-clause-parts g c = λ t size entry f.
     let v = g.D.Disk.view c.args.disk.now in
     let fits = tail_fits v c.args.self.now.name c.args.self.now.tail c.args.self.now.greatest c.args.tail c.requires.tail (c.requires.fits t).files in
-    let at = c.in-Ok.ensures.grown t fits.part entry fits.whole (frame_at v c.args.self.now.name c.args.self.now.tail c.args.self.now.greatest c.args.tail c.requires.tail c.args.frame.now entry f) in
-    advances_parts v c.args.self.now.name c.args.self.now.tail c.args.self.now.greatest c.args.tail c.requires.tail (g.D.Disk.view c.push_frame.new.disk) c.in-Ok.next size fits.part entry fits.whole at
+    let at = c.in-Ok.ensures.grown t fits.part entry fits.at.whole (frame_at v c.args.self.now.name c.args.self.now.tail c.args.self.now.greatest c.args.tail c.requires.tail c.args.frame.now entry f) in
+    advances_parts v c.args.self.now.name c.args.self.now.tail c.args.self.now.greatest c.args.tail c.requires.tail (g.D.Disk.view c.push_frame.new.disk) c.in-Ok.next size fits.part entry fits.at.whole at
 
 pub returns-in-Ok-clause-fits : goal.returns-in-Ok-clause-fits
 returns-in-Ok-clause-fits g c = λ t.
@@ -28,11 +28,11 @@ returns-in-Ok-clause-fits g c = λ t.
     let tail = c.args.tail in
     let fits = tail_fits v name c.args.self.now.tail c.args.self.now.greatest tail c.requires.tail (c.requires.fits t).files in
     let entry = c.requires.frame.0 in
-    let at = c.in-Ok.ensures.grown t fits.part entry fits.whole c.requires.frame.1 in
+    let at = c.in-Ok.ensures.grown t fits.part entry fits.at.whole c.requires.frame.1 in
     let old = subst (λ (o : Option Tail). HasOffsets v name o c.args.self.now.offsets.items) c.requires.tail (c.requires.fits t).offsets in
-    let placed = c.in-Ok.ensures.placed t fits.part entry c.args.self.now.offsets.items fits.whole c.requires.frame.1 (old fits.part fits.whole) in
+    let placed = c.in-Ok.ensures.placed t fits.part entry c.args.self.now.offsets.items fits.at.whole c.requires.frame.1 (old fits.part fits.at.whole) in
     record {
-      files = advances_fits v name c.args.self.now.tail c.args.self.now.greatest tail c.requires.tail w c.in-Ok.next fits.part entry (c.requires.fits t).files (c.push_frame.ensures.others t) c.in-Ok.ensures.tail.0 fits.whole at;
+      files = advances_fits v name c.args.self.now.tail c.args.self.now.greatest tail c.requires.tail w c.in-Ok.next fits.part entry (c.requires.fits t).files (c.push_frame.ensures.others t) c.in-Ok.ensures.tail.0 fits.at.whole at;
       offsets = offsets_at w name c.in-Ok.next (with_entry fits.part entry) c.note.new.offsets.items at
           (subst (λ (l : Offset_list). ArePlaced w name c.in-Ok.next.id (with_entry fits.part entry) l) (sym c.note.ensures)
           (subst (λ (i : FileId). ArePlaced w name i (with_entry fits.part entry) (c.args.self.now.offsets.items ++ (tail.last, tail.gate + 5) ∷ [])) (sym c.in-Ok.ensures.tail.0) placed));
@@ -54,10 +54,10 @@ pub returns-in-Ok-clause-held : goal.returns-in-Ok-clause-held
 returns-in-Ok-clause-held g c = λ t held.
     let v = g.D.Disk.view c.args.disk.now in
     let fits = tail_fits v c.args.self.now.name c.args.self.now.tail c.args.self.now.greatest c.args.tail c.requires.tail (c.requires.fits t).files in
-    let at = c.in-Ok.ensures.grown t fits.part c.requires.frame.0 fits.whole c.requires.frame.1 in
+    let at = c.in-Ok.ensures.grown t fits.part c.requires.frame.0 fits.at.whole c.requires.frame.1 in
     advances_held v c.args.self.now.name c.args.self.now.tail c.args.self.now.greatest c.args.tail c.requires.tail (g.D.Disk.view c.push_frame.new.disk) c.in-Ok.next fits.part c.requires.frame.0 at
-    (c.in-Ok.ensures.held t fits.part c.requires.frame.0 fits.whole c.requires.frame.1
-    (held_at v c.args.self.now.name c.args.self.now.tail c.args.self.now.greatest c.args.tail c.requires.tail fits.part fits.whole held))
+    (c.in-Ok.ensures.held t fits.part c.requires.frame.0 fits.at.whole c.requires.frame.1
+    (held_at v c.args.self.now.name c.args.self.now.tail c.args.self.now.greatest c.args.tail c.requires.tail fits.part fits.at.whole held))
 
 pub returns-in-Ok-clause-last : goal.returns-in-Ok-clause-last
 returns-in-Ok-clause-last g c = c.in-Ok.ensures.tail.1 ∙ ap (λ (k : ℕ). k + 1) (sym (at_last (g.D.Disk.view c.args.disk.now) c.args.self.now.name c.args.self.now.tail c.args.self.now.greatest c.args.tail c.requires.tail))
@@ -69,10 +69,10 @@ pub returns-in-Ok-clause-any_moment : goal.returns-in-Ok-clause-any_moment
 returns-in-Ok-clause-any_moment g c = λ t held entry f.
     let v = g.D.Disk.view c.args.disk.now in
     let fits = tail_fits v c.args.self.now.name c.args.self.now.tail c.args.self.now.greatest c.args.tail c.requires.tail (c.requires.fits t).files in
-    advances_left v c.args.self.now.name c.args.self.now.tail c.args.self.now.greatest c.args.tail c.requires.tail (g.D.Disk.view c.push_frame.new.disk) fits.part entry fits.whole
-    (c.push_frame.ensures.any_moment t fits.part entry fits.whole
+    advances_left v c.args.self.now.name c.args.self.now.tail c.args.self.now.greatest c.args.tail c.requires.tail (g.D.Disk.view c.push_frame.new.disk) fits.part entry fits.at.whole
+    (c.push_frame.ensures.any_moment t fits.part entry fits.at.whole
     (frame_at v c.args.self.now.name c.args.self.now.tail c.args.self.now.greatest c.args.tail c.requires.tail c.args.frame.now entry f)
-    (held_at v c.args.self.now.name c.args.self.now.tail c.args.self.now.greatest c.args.tail c.requires.tail fits.part fits.whole held))
+    (held_at v c.args.self.now.name c.args.self.now.tail c.args.self.now.greatest c.args.tail c.requires.tail fits.part fits.at.whole held))
 
 pub returns-in-Ok-clause-others : goal.returns-in-Ok-clause-others
 returns-in-Ok-clause-others g c = λ t. keeps_names (g.D.Disk.view c.args.disk.now) (g.D.Disk.view c.push_frame.new.disk) c.args.self.now.name c.args.tail.id (c.push_frame.ensures.others t)
@@ -81,10 +81,10 @@ pub returns-in-Err-clause-any_moment : goal.returns-in-Err-clause-any_moment
 returns-in-Err-clause-any_moment g c = λ t held entry f.
     let v = g.D.Disk.view c.args.disk.now in
     let fits = tail_fits v c.args.self.now.name c.args.self.now.tail c.args.self.now.greatest c.args.tail c.requires.tail (c.requires.fits t).files in
-    advances_left v c.args.self.now.name c.args.self.now.tail c.args.self.now.greatest c.args.tail c.requires.tail (g.D.Disk.view c.push_frame.new.disk) fits.part entry fits.whole
-    (c.push_frame.ensures.any_moment t fits.part entry fits.whole
+    advances_left v c.args.self.now.name c.args.self.now.tail c.args.self.now.greatest c.args.tail c.requires.tail (g.D.Disk.view c.push_frame.new.disk) fits.part entry fits.at.whole
+    (c.push_frame.ensures.any_moment t fits.part entry fits.at.whole
     (frame_at v c.args.self.now.name c.args.self.now.tail c.args.self.now.greatest c.args.tail c.requires.tail c.args.frame.now entry f)
-    (held_at v c.args.self.now.name c.args.self.now.tail c.args.self.now.greatest c.args.tail c.requires.tail fits.part fits.whole held))
+    (held_at v c.args.self.now.name c.args.self.now.tail c.args.self.now.greatest c.args.tail c.requires.tail fits.part fits.at.whole held))
 
 pub returns-in-Err-clause-others : goal.returns-in-Err-clause-others
 returns-in-Err-clause-others g c = λ t. keeps_names (g.D.Disk.view c.args.disk.now) (g.D.Disk.view c.push_frame.new.disk) c.args.self.now.name c.args.tail.id (c.push_frame.ensures.others t)
@@ -98,7 +98,7 @@ returns-in-Ok-clause-empty g c = λ t held none.
     let greatest = c.args.self.now.greatest in
     let fits = tail_fits v name old greatest c.args.tail c.requires.tail (c.requires.fits t).files in
     absurd (tail_listed v w name fits.part ((fits.part.last + 1, c.requires.frame.0) ∷ []) (frame_size (fits.part.last + 1) c.requires.frame.0) (g.met.D.Disk.sound c.push_frame.new.disk t)
-    (c.push_frame.ensures.any_moment t fits.part c.requires.frame.0 fits.whole c.requires.frame.1 (held_at v name old greatest c.args.tail c.requires.tail fits.part fits.whole held)) none)
+    (c.push_frame.ensures.any_moment t fits.part c.requires.frame.0 fits.at.whole c.requires.frame.1 (held_at v name old greatest c.args.tail c.requires.tail fits.part fits.at.whole held)) none)
 
 pub returns-in-Err-clause-empty : goal.returns-in-Err-clause-empty
 returns-in-Err-clause-empty g c = λ t held none.
@@ -109,4 +109,4 @@ returns-in-Err-clause-empty g c = λ t held none.
     let greatest = c.args.self.now.greatest in
     let fits = tail_fits v name old greatest c.args.tail c.requires.tail (c.requires.fits t).files in
     absurd (tail_listed v w name fits.part ((fits.part.last + 1, c.requires.frame.0) ∷ []) (frame_size (fits.part.last + 1) c.requires.frame.0) (g.met.D.Disk.sound c.push_frame.new.disk t)
-    (c.push_frame.ensures.any_moment t fits.part c.requires.frame.0 fits.whole c.requires.frame.1 (held_at v name old greatest c.args.tail c.requires.tail fits.part fits.whole held)) none)
+    (c.push_frame.ensures.any_moment t fits.part c.requires.frame.0 fits.at.whole c.requires.frame.1 (held_at v name old greatest c.args.tail c.requires.tail fits.part fits.at.whole held)) none)
