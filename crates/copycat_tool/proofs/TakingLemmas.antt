@@ -72,7 +72,7 @@ module _ {D : Type 0} (view : D → View) (files : Files) where
       runs = still.stopped ∙ at.stands.runs;
       log = at.stands.log;
       stored = (λ i. log_in (view (still.disk i)) (still.parts i)) ∙ at.stands.stored;
-      held = subst (λ (p : D × FileParts). IsHeld (view p.0) p.1.name p.1.tail) (λ i. (sym still.disk i, sym still.parts i)) at.stands.held;
+      held = subst (λ (p : D × FileParts). IsHeld (view p.0) p.1) (λ i. (sym still.disk i, sym still.parts i)) at.stands.held;
       state = confirmed.state ∙ at.stands.state;
     };
     last_is = ap (λ (s : Hosted). s.last) confirmed.state ∙ at.last_is;

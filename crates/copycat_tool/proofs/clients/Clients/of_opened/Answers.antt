@@ -1,11 +1,14 @@
-use Rattle.std.proofs.Common.{◌≡◌, ◌∙◌, ℕ, ◌==◌, false, [], List, ap, arith, refl, sym, subst}
+use Rattle.std.proofs.Common.{◌≡◌, ◌∙◌, ℕ, ◌==◌, false, [], ◌∷◌, length, List, ap, arith, refl, sym, subst}
 use Rattle.std.specs.List.{list_any}
 use Rattle.std.specs.Vec.Iter.{into_iter_items}
 use Rattle.log_model.specs.serving.Positions.{acked_positions, event_at}
-use Rattle.host_recovery.proofs.Openings.{none_left}
 use Rattle.copycat_tool.proofs.BeginningLemmas.{acked_of_view, begins_empty, keeps_next, none_seen}
 use Rattle.copycat_tool.proofs.clients.Clients.of_opened.Goals as goal
 use Rattle.copycat_tool.proofs.clients.Clients.of_opened.Goals.{in-Some-session, in-None-session}
+
+none_left : {X : Type 0} (l : List X) → length l ≡ 0 → l ≡ []
+none_left [] is = refl
+none_left (x ∷ l) is = absurd (omega (arith, is))
 
 pub loop-id-init : goal.loop-id-init
 loop-id-init g c =
