@@ -31,7 +31,7 @@ use Rattle.log_model.specs.plain.Stored.{entry_of, is_admission, is_admitted, is
 use Rattle.log_model.specs.serving.Positions.{Position, acked_positions, confirmed_after, event_at}
 use Rattle.session_table.specs.Table.{ConfirmsAcked, confirmed_positions}
 use Rattle.host_core.specs.CoreState.{hosted}
-use Rattle.host_recovery.specs.Lying.{LiesAlone}
+use Rattle.host_recovery.specs.FileLayout.{LiesAlone}
 use Rattle.host_recovery.specs.HostState.{HostState}
 use Rattle.host_recovery.specs.Standing.{StandsAt, StandsOrGains, StandsOrTakes, StandsOrExpires, layout_in}
 use Rattle.host_recovery.specs.Answers.{AfterError, IsAnswer, IsExpiry, OnAnswer, OnExpiry, admits_file as host_admits_file, admits_stored, answer_of, expiry_refusal, expiry_stored, if_filed}

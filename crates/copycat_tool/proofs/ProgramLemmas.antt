@@ -7,14 +7,14 @@ use Rattle.segment_files.specs.Folder.{folder, IsFault}
 use Rattle.segment_set.specs.Fits.{IsEmptyWhereNone}
 use Rattle.segment_set.specs.declared.opening.OpenError.{OpenError}
 use Rattle.segment_set.specs.declared.opening.OpenError.TheVariants as errors
-use Rattle.segment_set.specs.Opening.{id_from}
+use Rattle.segment_set.specs.Load.{id_from}
 use Rattle.log_model.specs.plain.Admission.{Item}
 use Rattle.log_model.specs.hosted.PlainMachine.{HostsArePlain}
 use Rattle.log_model.specs.plain.Step.{folded}
 use Rattle.log_model.specs.serving.Positions.{acked_positions}
 use Rattle.resource_catalog.specs.Catalog.{catalog_decision}
 use Rattle.copycat_tool.specs.Report.{Run}
-use Rattle.host_recovery.specs.Lying.{Lies}
+use Rattle.host_recovery.specs.FileLayout.{Lies}
 use Rattle.host_recovery.specs.Logs.{HasPrefix, IsInOrder, IsLog, StandsFor, hosted_form, plain_form}
 use Rattle.copycat_tool.specs.declared.ending.Ending.{Ending}
 use Rattle.copycat_tool.specs.declared.ending.Ending.TheVariants.{Damaged, DiskFault, NoMemory, ReadFault, WriteFault}

@@ -5,7 +5,7 @@ use Rattle.disk_model.specs.View.{View}
 use Rattle.disk_model.proofs.Moments.{stood, went_on}
 use Rattle.log_model.specs.plain.Admission.{Item}
 use Rattle.log_model.specs.cleaning.Layout.{alone}
-use Rattle.host_recovery.specs.Lying.{LiesAlone}
+use Rattle.host_recovery.specs.FileLayout.{LiesAlone}
 use Rattle.copycat_tool.specs.Script.{has_feed}
 use Rattle.copycat_tool.specs.Report.{Run, Act, Report, Cut, report, in_front, after, printed}
 use Rattle.copycat_tool.specs.declared.ending.Ending.{Ending}

@@ -58,7 +58,7 @@ module _ {D : Type 0} (view : D → View) (files : Files) where
         logged = subst (λ (l : List Item). IsLog plain_form l) (sym log) rest.logged;
         kept = λ image may. subst (λ (l : List Item). StandsFor plain_form files.name image l) (sym log) (rest.kept image may);
         empty = rest.empty;
-        laid_out = subst (λ (l : Rattle.log_model.specs.cleaning.Layout.Layout). Rattle.host_recovery.specs.Lying.LiesAlone files.name v.reading (Rattle.log_model.specs.cleaning.Layout.alone l)) (sym layout) rest.laid_out;
+        laid_out = subst (λ (l : Rattle.log_model.specs.cleaning.Layout.Layout). Rattle.host_recovery.specs.FileLayout.LiesAlone files.name v.reading (Rattle.log_model.specs.cleaning.Layout.alone l)) (sym layout) rest.laid_out;
       } in
       subst (λ (x : View). IsAtRest files x run') (sym same) here
 

@@ -6,8 +6,8 @@ use Rattle.segment_files.specs.Folder.{folder, IsFault}
 use Rattle.log_model.specs.plain.Admission.{Item}
 use Rattle.log_model.specs.plain.Step.{folded}
 use Rattle.log_model.specs.serving.Positions.{acked_positions}
-use Rattle.host_recovery.specs.Lying.{Lies}
-use Rattle.segment_set.specs.Opening.{id_from}
+use Rattle.host_recovery.specs.FileLayout.{Lies}
+use Rattle.segment_set.specs.Load.{id_from}
 use Rattle.copycat_tool.specs.declared.ending.Ending.{Ending}
 use Rattle.copycat_tool.specs.declared.ending.Ending.TheVariants.{DiskFault, Damaged, NoMemory}
 use Rattle.host_recovery.specs.Logs.{HasPrefix, IsInOrder, StandsFor, plain_form}

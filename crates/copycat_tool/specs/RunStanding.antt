@@ -6,7 +6,7 @@ use Rattle.segment_set.specs.Fits.{IsEmptyWhereNone}
 use Rattle.log_model.specs.cleaning.Layout.{alone, needs_file}
 use Rattle.session_table.specs.Table.{confirmed_positions}
 use Rattle.host_core.specs.CoreState.{hosted}
-use Rattle.host_recovery.specs.Lying.{LiesAlone}
+use Rattle.host_recovery.specs.FileLayout.{LiesAlone}
 use Rattle.host_recovery.specs.HostState.{HostState}
 use Rattle.host_recovery.specs.Standing.{StandsAt, layout_in}
 use Rattle.resource_catalog.specs.Catalog.{catalog_decision}

@@ -8,7 +8,7 @@ use Rattle.log_model.specs.plain.Step.{folded}
 use Rattle.log_model.specs.serving.Batches.{Batch, batches}
 use Rattle.log_model.specs.serving.Positions.{acked_positions}
 use Rattle.log_model.specs.serving.Serving.{AreOf, after_event, is_point, last_taken, taken}
-use Rattle.host_recovery.specs.Lying.{LiesAlone}
+use Rattle.host_recovery.specs.FileLayout.{LiesAlone}
 use Rattle.copycat_tool.specs.declared.ending.Ending.{Ending}
 use Rattle.copycat_tool.specs.declared.ending.Ending.TheVariants.{Done, Fault, TooLong, ReadFault, WriteFault, DiskFault, NoMemory, Damaged}
 use Rattle.copycat_tool.specs.Script.{script_limit, command}

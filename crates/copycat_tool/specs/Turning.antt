@@ -1,5 +1,5 @@
 -- What comes of a part of a run: acts that were done and told, or an ending within them.
-use Rattle.std.specs.Prelude.{◌≡◌, ◌≤◌, ◌<◌, ℕ, Bool, List, [], ◌∷◌, ◌++◌, length, take, Option, Some, None, Result, Ok, Err, IsTrue, IsErrOf}
+use Rattle.std.specs.Prelude.{◌≡◌, ◌≤◌, ◌<◌, ℕ, Bool, false, List, [], ◌∷◌, ◌++◌, length, take, Option, Some, None, Result, Ok, Err, OnOk, IsTrue, IsErrOf}
 use Rattle.disk_model.specs.View.{View}
 use Rattle.host_types.specs.declared.entry.Refusal.{Refusal}
 use Rattle.script_io.specs.Streams.{Rose}
@@ -101,3 +101,10 @@ pub record KeepsRun {D : Type 0} (tells : Bool) (view : D → View) (faults : D 
   pub sink_fault : IsErrOf result WriteFault → Rose sink sink'
   pub read_fault : IsErrOf result ReadFault → read_failed
   pub undamaged : IsTrue tells → (base generation at : ℕ) → IsErrOf result (Damaged base generation at) → ⊥
+
+-- A part of a run, over any disk and sink: where it goes on the host runs on; where the host stood at a run this is told of it; and
+-- what every part keeps.
+pub record IsPart {D : Type 0} (tells : Bool) (view : D → View) (faults : D → ℕ) (old new : HostState D Parts) (sink sink' : ℕ) {T : Type 0} (result : Result T Ending) (said : Files → Run → Type 0) : Type 0 where
+  pub runs : OnOk result (new.stopped ≡ false)
+  pub told : IsTrue tells → (files : Files) (run : Run) → IsAt view files old run → said files run
+  pub keeps : KeepsRun tells view faults old new sink sink' ⊥ result

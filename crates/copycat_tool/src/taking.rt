@@ -8,7 +8,7 @@ ghost use Rattle.copycat_tool.specs.Report.{Run, after, take_answer};
 ghost use Rattle.copycat_tool.specs.Runs.{Files};
 ghost use Rattle.copycat_tool.specs.RunStanding.{IsAt};
 ghost use Rattle.copycat_tool.specs.ClientTakes.{ArePut, Comes, HasClients, HasTaken, IsConfirmed, IsStill, Keeps, event_lines};
-ghost use Rattle.copycat_tool.specs.Turning.{Answers, KeepsRun};
+ghost use Rattle.copycat_tool.specs.Turning.{Answers, IsPart};
 
 use crate::clients::Clients;
 use crate::ending::Ending;
@@ -153,12 +153,9 @@ pub fn answer_take<D: Disk, O: Sink>(
     out: &mut O,
 ) -> Result<(), Ending>
     requires runs { host.old.stopped ≡ false }
-    ensures runs { OnOk result (host.new.stopped ≡ false) }
-    ensures answers { IsTrue D.tells → (files : Files) (run : Run) → IsAt D.view files host.old run → HasClients run clients.old
-        → Answers D.view files (take_answer run session ∷ []) host.old host.new run (O.written out.old) (O.written out.new) result }
-    ensures clients { IsTrue D.tells → (files : Files) (run : Run) → IsAt D.view files host.old run → HasClients run clients.old
-        → OnOk result (HasClients (after files.size run (take_answer run session ∷ [])) clients.new) }
-    ensures keeps { KeepsRun D.tells D.view D.faults host.old host.new (O.faults out.old) (O.faults out.new) ⊥ result }
+    ensures { IsPart D.tells D.view D.faults host.old host.new (O.faults out.old) (O.faults out.new) result (λ files run. HasClients run clients.old
+        → Answers D.view files (take_answer run session ∷ []) host.old host.new run (O.written out.old) (O.written out.new) result
+        × OnOk result (HasClients (after files.size run (take_answer run session ∷ [])) clients.new)) }
 {
     let mut client = clients.of(session);
     match next_for(session, &mut client, host) {

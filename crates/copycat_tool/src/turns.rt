@@ -1,12 +1,10 @@
 // One line of a script: it is answered, or the run ends there.
-ghost use Rattle.std.specs.Prelude.{◌≡◌, ◌≤◌, ◌∷◌, [], IsTrue, OnOk, false, true};
+ghost use Rattle.std.specs.Prelude.{◌≡◌, ◌∷◌, [], OnOk, false, true};
 ghost use Rattle.host_types.specs.Decision.{is_looking};
 ghost use Rattle.copycat_tool.specs.Script.{IsFit};
-ghost use Rattle.copycat_tool.specs.Report.{Run, admission, after, answer_by, answers_to, look_answer, offered, reopening};
-ghost use Rattle.copycat_tool.specs.Runs.{Files};
-ghost use Rattle.copycat_tool.specs.RunStanding.{IsAt};
+ghost use Rattle.copycat_tool.specs.Report.{admission, after, answer_by, answers_to, look_answer, offered, reopening};
 ghost use Rattle.copycat_tool.specs.ClientTakes.{HasClients};
-ghost use Rattle.copycat_tool.specs.Turning.{Answers, Expires_all, KeepsRun, Turns};
+ghost use Rattle.copycat_tool.specs.Turning.{Answers, Expires_all, IsPart, Turns};
 
 use crate::calls::{Expiring, expire_next, look, make_offer, quiet_of, reopen};
 use crate::clients::Clients;
@@ -31,10 +29,8 @@ fn expire_all<D: Disk, O: Sink>(
     out: &mut O,
 ) -> Result<Option<Refusal>, Ending>
     requires runs { host.old.stopped ≡ false }
-    ensures runs { OnOk result (host.new.stopped ≡ false) }
-    ensures expires { IsTrue D.tells → (files : Files) (run : Run) → IsAt D.view files host.old run
-        → Expires_all D.view files time host.old host.new run (O.written out.old) (O.written out.new) result }
-    ensures keeps { KeepsRun D.tells D.view D.faults host.old host.new (O.faults out.old) (O.faults out.new) ⊥ result }
+    ensures { IsPart D.tells D.view D.faults host.old host.new (O.faults out.old) (O.faults out.new) result (λ files run.
+        Expires_all D.view files time host.old host.new run (O.written out.old) (O.written out.new) result) }
 {
     loop {
         match expire_next(alloc, time, host) {
@@ -60,10 +56,8 @@ fn answer_offer<D: Disk, O: Sink>(
     out: &mut O,
 ) -> Result<(), Ending>
     requires runs { host.old.stopped ≡ false }
-    ensures runs { OnOk result (host.new.stopped ≡ false) }
-    ensures answers { IsTrue D.tells → (files : Files) (run : Run) → IsAt D.view files host.old run
-        → Answers D.view files (answer_by (admission run one.now) run one.now ∷ []) host.old host.new run (O.written out.old) (O.written out.new) result }
-    ensures keeps { KeepsRun D.tells D.view D.faults host.old host.new (O.faults out.old) (O.faults out.new) ⊥ result }
+    ensures { IsPart D.tells D.view D.faults host.old host.new (O.faults out.old) (O.faults out.new) result (λ files run.
+        Answers D.view files (answer_by (admission run one.now) run one.now ∷ []) host.old host.new run (O.written out.old) (O.written out.new) result) }
 {
     match make_offer(alloc, one, host) {
         Ok(told) => put_answer(told, text, out),
@@ -80,10 +74,8 @@ fn answer_line_of_offer<D: Disk, O: Sink>(
     out: &mut O,
 ) -> Result<(), Ending>
     requires runs { host.old.stopped ≡ false }
-    ensures runs { OnOk result (host.new.stopped ≡ false) }
-    ensures answers { IsTrue D.tells → (files : Files) (run : Run) → IsAt D.view files host.old run
-        → Answers D.view files (offered files.size run one.now) host.old host.new run (O.written out.old) (O.written out.new) result }
-    ensures keeps { KeepsRun D.tells D.view D.faults host.old host.new (O.faults out.old) (O.faults out.new) ⊥ result }
+    ensures { IsPart D.tells D.view D.faults host.old host.new (O.faults out.old) (O.faults out.new) result (λ files run.
+        Answers D.view files (offered files.size run one.now) host.old host.new run (O.written out.old) (O.written out.new) result) }
 {
     match expire_all(alloc, one.time, host, text, out) {
         Ok(None) => answer_offer(alloc, one, host, text, out),
@@ -103,10 +95,8 @@ fn answer_look<D: Disk, O: Sink>(
 ) -> Result<(), Ending>
     requires runs { host.old.stopped ≡ false }
     requires looks { is_looking op.now ≡ true }
-    ensures runs { OnOk result (host.new.stopped ≡ false) }
-    ensures answers { IsTrue D.tells → (files : Files) (run : Run) → IsAt D.view files host.old run
-        → Answers D.view files (look_answer run name.now op.now ∷ []) host.old host.new run (O.written out.old) (O.written out.new) result }
-    ensures keeps { KeepsRun D.tells D.view D.faults host.old host.new (O.faults out.old) (O.faults out.new) ⊥ result }
+    ensures { IsPart D.tells D.view D.faults host.old host.new (O.faults out.old) (O.faults out.new) result (λ files run.
+        Answers D.view files (look_answer run name.now op.now ∷ []) host.old host.new run (O.written out.old) (O.written out.new) result) }
 {
     match look(alloc, name, op, host) {
         Ok(answer) => put_answer(answer, text, out),
@@ -122,10 +112,8 @@ fn answer_reopen<D: Disk, O: Sink>(
     out: &mut O,
 ) -> Result<(), Ending>
     requires runs { host.old.stopped ≡ false }
-    ensures runs { OnOk result (host.new.stopped ≡ false) }
-    ensures answers { IsTrue D.tells → (files : Files) (run : Run) → IsAt D.view files host.old run
-        → Answers D.view files (reopening run ∷ []) host.old host.new run (O.written out.old) (O.written out.new) result }
-    ensures keeps { KeepsRun D.tells D.view D.faults host.old host.new (O.faults out.old) (O.faults out.new) ⊥ result }
+    ensures { IsPart D.tells D.view D.faults host.old host.new (O.faults out.old) (O.faults out.new) result (λ files run.
+        Answers D.view files (reopening run ∷ []) host.old host.new run (O.written out.old) (O.written out.new) result) }
 {
     match reopen(alloc, host) {
         Ok(answer) => put_answer(answer, text, out),
@@ -144,12 +132,9 @@ fn answer_command<D: Disk, O: Sink>(
 ) -> Result<(), Ending>
     requires runs { host.old.stopped ≡ false }
     requires fit { IsFit asked.now }
-    ensures runs { OnOk result (host.new.stopped ≡ false) }
-    ensures answers { IsTrue D.tells → (files : Files) (run : Run) → IsAt D.view files host.old run → HasClients run clients.old
-        → Answers D.view files (answers_to files.size run asked.now) host.old host.new run (O.written out.old) (O.written out.new) result }
-    ensures clients { IsTrue D.tells → (files : Files) (run : Run) → IsAt D.view files host.old run → HasClients run clients.old
-        → OnOk result (HasClients (after files.size run (answers_to files.size run asked.now)) clients.new) }
-    ensures keeps { KeepsRun D.tells D.view D.faults host.old host.new (O.faults out.old) (O.faults out.new) ⊥ result }
+    ensures { IsPart D.tells D.view D.faults host.old host.new (O.faults out.old) (O.faults out.new) result (λ files run. HasClients run clients.old
+        → Answers D.view files (answers_to files.size run asked.now) host.old host.new run (O.written out.old) (O.written out.new) result
+        × OnOk result (HasClients (after files.size run (answers_to files.size run asked.now)) clients.new)) }
 {
     match asked {
         Command::Skip => Ok(()),
@@ -172,10 +157,8 @@ pub fn turn<D: Disk, O: Sink>(
     out: &mut O,
 ) -> Result<(), Ending>
     requires runs { host.old.stopped ≡ false }
-    ensures runs { OnOk result (host.new.stopped ≡ false) }
-    ensures turns { IsTrue D.tells → (files : Files) (run : Run) → IsAt D.view files host.old run → HasClients run clients.old
-        → Turns D.view files line.now number host.old host.new run (O.written out.old) (O.written out.new) clients.new result }
-    ensures keeps { KeepsRun D.tells D.view D.faults host.old host.new (O.faults out.old) (O.faults out.new) ⊥ result }
+    ensures { IsPart D.tells D.view D.faults host.old host.new (O.faults out.old) (O.faults out.new) result (λ files run. HasClients run clients.old
+        → Turns D.view files line.now number host.old host.new run (O.written out.old) (O.written out.new) clients.new result) }
 {
     match read_command(alloc, line) {
         Ok(Some(asked)) => answer_command(alloc, &asked, host, clients, text, out),

@@ -9,12 +9,12 @@ use Rattle.segment_set.specs.declared.tail.Tail.{Tail}
 use Rattle.segment_set.specs.declared.parts.Parts.{Parts}
 use Rattle.segment_set.specs.Fits.{FilesFit, tail_parts}
 use Rattle.segment_set.proofs.Faultless.{no_fault}
-use Rattle.segment_set.specs.Opening.{IsGreatestListed}
+use Rattle.segment_set.specs.Load.{IsGreatestListed}
 use Rattle.segment_set.proofs.Images.{nothing, only_one, here}
 use Rattle.segment_set.proofs.Loading.{bytes_of_whole}
 use Rattle.segment_set.proofs.Gaining.{whole_plain, list_at}
 use Rattle.log_model.specs.cleaning.Layout.{Layout, PartLayout, alone, greatest_of, needs_file}
-use Rattle.host_recovery.specs.Lying.{IsGreatest, IsThere, Lies, LiesAlone}
+use Rattle.host_recovery.specs.FileLayout.{IsGreatest, IsThere, Lies, LiesAlone}
 use Rattle.host_recovery.specs.Standing.{layout_in, part_layout}
 use Rattle.host_recovery.proofs.Openings.{one_choice}
 

@@ -11,7 +11,7 @@ use Rattle.segment_files.specs.Folder.{folder, entries_of, IsChoice, IsFault, St
 use Rattle.segment_set.specs.declared.tail.Tail.{Tail}
 use Rattle.segment_set.specs.declared.parts.Parts.{Parts}
 use Rattle.segment_set.specs.Fits.{FilesFit, IsTailHeld, IsInOrder as FilesAreInOrder, tail_parts}
-use Rattle.segment_set.specs.Opening.{IsGreatestListed}
+use Rattle.segment_set.specs.Load.{IsGreatestListed}
 use Rattle.log_model.specs.plain.Admission.{Item}
 use Rattle.log_model.specs.hosted.Hosted.{hosted_stored, hosted_told}
 use Rattle.log_model.specs.cleaning.Layout.{alone}

@@ -1,7 +1,7 @@
 pub mod Answers
 pub mod HostState
 pub mod Logs
-pub mod Lying
+pub mod FileLayout
 pub mod Opening
 pub mod Serving
 pub mod Standing

@@ -22,7 +22,7 @@ abbrev pub disk_behind : {D M : Type 0} → Result (HostState D M) (D × OpenErr
 disk_behind (Ok h) = h.disk
 disk_behind (Err back) = back.0
 
--- how it went
-abbrev pub went : {D M : Type 0} → Result (HostState D M) (D × OpenError) → Result (HostState D M) OpenError
-went (Ok h) = Ok h
-went (Err back) = Err back.1
+-- how the opening ended
+abbrev pub opening_result : {D M : Type 0} → Result (HostState D M) (D × OpenError) → Result (HostState D M) OpenError
+opening_result (Ok h) = Ok h
+opening_result (Err back) = Err back.1

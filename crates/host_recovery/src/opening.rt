@@ -6,7 +6,7 @@ ghost use Rattle.disk_model.specs.Calls.{Looks};
 ghost use Rattle.segment_files.specs.Folder.{folder, entries_of, IsChoice, IsFault, StandsForPrefix};
 ghost use Rattle.host_types.specs.declared.entry.Entry.{Entry};
 ghost use Rattle.segment_set.specs.Fits.{Fits, IsEmptyWhereNone, IsHeld, IsInOrder as FilesAreInOrder, KeepsNames, last_of, parts_in};
-ghost use Rattle.segment_set.specs.Opening.{HasOpenCause, IsGreatestListed, id_from};
+ghost use Rattle.segment_set.specs.Load.{HasOpenCause, IsGreatestListed, id_from};
 ghost use Rattle.log_model.specs.plain.Admission.{Item};
 ghost use Rattle.log_model.specs.hosted.Hosted.{hosted_nothing, hosted_told};
 ghost use Rattle.log_model.specs.cleaning.Layout.{alone};
@@ -14,9 +14,9 @@ ghost use Rattle.log_model.specs.replay.Replay.{replay_from, replayed};
 ghost use Rattle.session_table.specs.Table.{ConfirmsAcked};
 ghost use Rattle.host_core.specs.CoreState.{hosted};
 ghost use Rattle.host_recovery.specs.Standing.{StandsAt, layout_in};
-ghost use Rattle.host_recovery.specs.Lying.{Lies};
+ghost use Rattle.host_recovery.specs.FileLayout.{Lies};
 ghost use Rattle.host_recovery.specs.Logs.{HasPrefix, IsInOrder, StandsFor, hosted_form};
-ghost use Rattle.host_recovery.specs.Opening.{OpensAt, disk_behind, went};
+ghost use Rattle.host_recovery.specs.Opening.{OpensAt, disk_behind, opening_result};
 
 use crate::host::Host;
 use disk_model::Disk;
@@ -125,7 +125,7 @@ impl<D: Disk, M: Machine> Host<D, M> {
         ensures lies { IfOk result (λ h. IsTrue D.tells → Lies name.now (D.view disk).reading (layout_in (D.view h.disk) h.parts)) }
 
         // A damaged file is named by its cause and with its place, and the files are as they were.
-        ensures damaged { (base generation at : ℕ) → IsErrOf (went result) (OpenError.Damaged base generation at)
+        ensures damaged { (base generation at : ℕ) → IsErrOf (opening_result result) (OpenError.Damaged base generation at)
             → IsTrue D.tells → IsFault (folder name.now (D.view disk).reading) (id_from base generation) at × ((D.view (disk_behind result)).reading ≡ (D.view disk).reading) }
 
         // Whatever it answers of files that aren't right, they are as they were.
@@ -134,7 +134,7 @@ impl<D: Disk, M: Machine> Host<D, M> {
 
         ensures empty { IsTrue D.tells → IsEmptyWhereNone (D.view disk) name.now → IsEmptyWhereNone (D.view (disk_behind result)) name.now }
         ensures others { IsTrue D.tells → KeepsNames (D.view disk) (D.view (disk_behind result)) name.now }
-        ensures cause { HasOpenCause (D.faults disk) (D.faults (disk_behind result)) (went result) }
+        ensures cause { HasOpenCause (D.faults disk) (D.faults (disk_behind result)) (opening_result result) }
     {
         let mut disk = disk;
         let mut core = Core::new(alloc, machine);

@@ -4,7 +4,7 @@ ghost use Rattle.disk_model.specs.Image.{Image};
 ghost use Rattle.disk_model.specs.View.{MayLeave};
 ghost use Rattle.segment_set.specs.Fits.{IsEmptyWhereNone};
 ghost use Rattle.log_model.specs.cleaning.Layout.{alone, needs_file};
-ghost use Rattle.host_recovery.specs.Lying.{LiesAlone};
+ghost use Rattle.host_recovery.specs.FileLayout.{LiesAlone};
 ghost use Rattle.host_recovery.specs.Logs.{StandsFor, hosted_form};
 ghost use Rattle.host_recovery.specs.Standing.{StandsAt, layout_in};
 ghost use Rattle.host_types.specs.Decision.{is_looking};

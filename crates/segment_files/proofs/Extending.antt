@@ -76,16 +76,17 @@ stands_more base b gate es os index offset entry within range fits some is at =
     let c = written b gate frame in
     let size = length (spelled index entry) in
     let rest = drop (gate + length frame) b in
-    let has : HasAt c (gate + 5) (spelled index entry) =
-        (0 ∷ rest,
-        sym (drop-drop 5 gate c)
-        ∙ ap (drop 5) (behind_front b gate within frame ∙ append_assoc (frame_bytes ((index, entry) ∷ [])) (0 ∷ []) rest)
-        ∙ entry_at index entry (0 ∷ rest)) in
+    let has : HasAt c (gate + 5) (spelled index entry) = (
+      0 ∷ rest,
+      sym (drop-drop 5 gate c)
+          ∙ ap (drop 5) (behind_front b gate within frame ∙ append_assoc (frame_bytes ((index, entry) ∷ [])) (0 ∷ []) rest)
+          ∙ entry_at index entry (0 ∷ rest),
+    ) in
     let body : length (body_bytes ((index, entry) ∷ [])) ≡ size = ap length (append-nil (spelled index entry)) in
     let reach : length frame ≡ length (frame_bytes ((index, entry) ∷ [])) + 1 = length-append (frame_bytes ((index, entry) ∷ [])) (0 ∷ []) in
     let all = long b gate within frame in
     let one = at_one base c (spelled index entry) (gate + 5) size index offset entry has (omega arith) some is
-        (record { exact = take_all size (spelled index entry) (omega arith); range = range; fits = fits }) in
+    (record { exact = take_all size (spelled index entry) (omega arith); range = range; fits = fits }) in
     at_join base c 64 (gate + 5) (gate + length (frame_bytes ((index, entry) ∷ []))) es ((index, entry) ∷ []) os ((offset, gate + 5) ∷ [])
     (at_to base c 64 gate (gate + 5) es os (omega arith) (at_same base b c gate (front_same b gate within frame) (omega (arith, all)) 64 gate es os (omega arith) at))
     (at_to base c (gate + 5) (gate + 5 + size) (gate + length (frame_bytes ((index, entry) ∷ []))) ((index, entry) ∷ []) ((offset, gate + 5) ∷ []) (omega (arith, body)) one)

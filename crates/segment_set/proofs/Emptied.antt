@@ -12,7 +12,7 @@ use Rattle.segment_files.specs.Folder.{folder, IsChoice, EachHas}
 use Rattle.segment_set.specs.declared.tail.Tail.{Tail}
 use Rattle.segment_set.specs.Growth.{HasOrGains, grown}
 use Rattle.segment_set.specs.Fits.{FilesFit, IsEmptyWhereNone, IsTailHeld}
-use Rattle.segment_set.specs.Opening.{Surveyed, OrGone}
+use Rattle.segment_set.specs.Load.{Surveyed, OrGone}
 use Rattle.segment_set.proofs.Images.{here}
 use Rattle.segment_set.proofs.Picking.{settled_has, has_after, narrow}
 use Rattle.segment_set.proofs.Loading.{bytes_of_whole, chosen_none}

@@ -8,7 +8,7 @@ use Rattle.segment_files.specs.Parse.{Part, Found, Closed, Whole, Damaged}
 use Rattle.segment_files.specs.Folder.{folder, HasOpen, IsChoice, IsDamagedAt, IsFault}
 use Rattle.segment_set.specs.declared.opened.Opened.{Opened}
 use Rattle.segment_set.specs.declared.tail.Tail.{Tail}
-use Rattle.segment_set.specs.Opening.{Surveyed, OpenedIs, IsTailFound, opened_id}
+use Rattle.segment_set.specs.Load.{Surveyed, OpenedIs, IsTailFound, opened_id}
 use Rattle.segment_set.proofs.Images.{nothing, only_one}
 use Rattle.segment_set.proofs.Growing.{folder_id}
 use Rattle.segment_set.proofs.Picking.{below_not}

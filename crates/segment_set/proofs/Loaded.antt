@@ -12,7 +12,7 @@ use Rattle.segment_files.specs.Folder.{Folder, folder, IsChoice, IsFault}
 use Rattle.segment_set.specs.declared.opened.Opened.{Opened}
 use Rattle.segment_set.specs.declared.tail.Tail.{Tail}
 use Rattle.segment_set.specs.Fits.{FilesFit, HasOffsets, IsEmptyWhereNone, IsTailHeld, part_list, tail_parts}
-use Rattle.segment_set.specs.Opening.{AreOffsetsOf, Surveyed, OpenedIs, OrGone, IsTailFound, IsGreatestListed, opened_id}
+use Rattle.segment_set.specs.Load.{AreOffsetsOf, Surveyed, OpenedIs, OrGone, IsTailFound, IsGreatestListed, opened_id}
 use Rattle.segment_set.proofs.Growing.{folder_id}
 use Rattle.segment_set.proofs.Loading.{Opens, chosen_one, chosen_none, whole_after, opened_same, only_opened, gate_after, held_after}
 

@@ -10,7 +10,7 @@ use Rattle.segment_files.specs.Files.{HasNames, IsAtGate}
 use Rattle.segment_files.specs.Parse.{Part, Closed, Whole, parse}
 use Rattle.segment_files.specs.Folder.{Folder, found, folder, IsChoice, EachHas}
 use Rattle.segment_set.specs.Fits.{IsEmptyWhereNone}
-use Rattle.segment_set.specs.Opening.{AreListed, OrGone, Surveyed, IsLikeBefore}
+use Rattle.segment_set.specs.Load.{AreListed, OrGone, Surveyed, IsLikeBefore}
 use Rattle.segment_set.proofs.Images.{one_part, no_part}
 use Rattle.segment_set.proofs.Appended.{appended, gate_in, gate_shut}
 use Rattle.segment_set.proofs.Growing.{folder_id}

@@ -5,7 +5,7 @@ use Rattle.disk_model.specs.Image.{Image, Place, place}
 use Rattle.disk_model.specs.View.{View, IsSound, LeavesAt, MayHold}
 use Rattle.disk_model.proofs.Names.{holds_now}
 use Rattle.segment_set.specs.Fits.{KeepsNames}
-use Rattle.segment_set.specs.Opening.{OrGone}
+use Rattle.segment_set.specs.Load.{OrGone}
 
 -- files were looked at and synced
 pub names_looked : (v w : View) (name : List ℕ) → IsSound w → w.reading ≡ v.reading → LeavesAt v w (MayHold v) → KeepsNames v w name

@@ -13,7 +13,7 @@ use Rattle.segment_files.specs.Files.{HasNames}
 use Rattle.segment_files.specs.Parse.{Part, Closed}
 use Rattle.segment_files.specs.Folder.{Folder, found, folder, IsChoice, Stands, StandsForPrefix, EachHas}
 use Rattle.segment_set.specs.Fits.{IsInOrder, IsEmptyWhereNone}
-use Rattle.segment_set.specs.Opening.{OrGone, IsLikeBefore}
+use Rattle.segment_set.specs.Load.{OrGone, IsLikeBefore}
 use Rattle.segment_set.proofs.Images.{nothing, here}
 use Rattle.segment_set.proofs.Removing.{id_of}
 

@@ -12,7 +12,7 @@ use Rattle.disk_model.specs.Calls.{Removes}
 use Rattle.disk_model.proofs.Moments.{started, goes_on}
 use Rattle.disk_model.proofs.Names.{holds_now}
 use Rattle.disk_model.proofs.Places.{removes_at}
-use Rattle.segment_set.specs.Opening.{OrGone, RemovedSoFar}
+use Rattle.segment_set.specs.Load.{OrGone, RemovedSoFar}
 
 pub id_of : (name : List ℕ) (a b : FileId) → place name a ≡ place name b → a ≡ b
 id_of name a b is = λ i. record { base = (is i).base; generation = (is i).generation }

@@ -11,7 +11,7 @@ use Rattle.disk_model.specs.View.{View}
 use Rattle.disk_model.specs.Calls.{Lists}
 use Rattle.segment_files.specs.Parse.{Part, Closed, Whole, base_place}
 use Rattle.segment_files.specs.Folder.{Folder, folder, HasOpen, IsDamagedAt, IsFirstDamaged}
-use Rattle.segment_set.specs.Opening.{Surveyed}
+use Rattle.segment_set.specs.Load.{Surveyed}
 use Rattle.segment_set.proofs.Images.{nothing}
 use Rattle.segment_set.proofs.Picking.{below_apart, below_not, listed_when}
 

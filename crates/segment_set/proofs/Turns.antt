@@ -15,7 +15,7 @@ use Rattle.segment_files.specs.declared.reading.Part.{Part as Scanned}
 use Rattle.segment_files.specs.declared.reading.Found.TheVariants.{Part as Is_part}
 use Rattle.segment_set.specs.declared.opened.Opened.{Opened}
 use Rattle.segment_set.specs.declared.opening.OpenError.TheVariants.{Damaged as Is_damaged}
-use Rattle.segment_set.specs.Opening.{Adds, Surveyed, IsLooked, IsOf, IsSeenDamaged, OpenedIs, opened_id, id_from}
+use Rattle.segment_set.specs.Load.{Adds, Surveyed, IsLooked, IsOf, IsSeenDamaged, OpenedIs, opened_id, id_from}
 use Rattle.segment_set.proofs.Surveying.{one_closed, one_open, ahead_fresh, first_damaged, second_open}
 
 -- a scan that tells a part

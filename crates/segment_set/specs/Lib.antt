@@ -1,4 +1,4 @@
 pub mod Fits
 pub mod Growth
-pub mod Opening
+pub mod Load
 pub mod Tails

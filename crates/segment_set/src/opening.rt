@@ -10,7 +10,7 @@ ghost use Rattle.segment_files.specs.Folder.{folder, IsChoice, IsFault, IsFirstD
 ghost use Rattle.segment_set.specs.Fits.{Fits, IsEmptyWhereNone, IsHeld, IsInOrder, KeepsNames, parts_in};
 ghost use Rattle.segment_files.specs.Contents.{AreBelow};
 ghost use Rattle.segment_set.specs.Tails.{tail_gate, tail_last};
-ghost use Rattle.segment_set.specs.Opening.{Adds, AreOffsetsOf, HasOpenCause, IsGreatestListed, IsLooked, IsOf, IsSeenDamaged, IsTailFound, OpenedIs, Surveyed, file_error, id_from, opened_id};
+ghost use Rattle.segment_set.specs.Load.{Adds, AreOffsetsOf, HasOpenCause, IsGreatestListed, IsLooked, IsOf, IsSeenDamaged, IsTailFound, OpenedIs, Surveyed, file_error, id_from, opened_id};
 
 use crate::opened::Opened;
 use crate::parts::Parts;

@@ -4,7 +4,7 @@ ghost use Rattle.disk_model.specs.Calls.{Looks};
 ghost use Rattle.segment_files.specs.Contents.{AreBelow};
 ghost use Rattle.segment_files.specs.Folder.{entries_of};
 ghost use Rattle.segment_set.specs.Fits.{Fits, IsEntryAt, MayBeRead, last_of, parts_in};
-ghost use Rattle.segment_set.specs.Opening.{HasOpenCause};
+ghost use Rattle.segment_set.specs.Load.{HasOpenCause};
 
 use crate::opening::{OpenError, file_error};
 use crate::parts::Parts;

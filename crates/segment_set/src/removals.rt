@@ -3,7 +3,7 @@ ghost use Rattle.std.specs.Prelude.{◌≡◌, ◌≢◌, IsTrue, OnOk, None, Al
 ghost use Rattle.disk_model.specs.Image.{IsFileId, Place, place};
 ghost use Rattle.disk_model.specs.View.{LeavesAt, HasCause};
 ghost use Rattle.disk_model.specs.declared.file_id.FileId.{FileId};
-ghost use Rattle.segment_set.specs.Opening.{AreListed, OrGone};
+ghost use Rattle.segment_set.specs.Load.{AreListed, OrGone};
 
 use disk_model::{Disk, DiskFault, FileId};
 use host_types::LogName;

@@ -39,10 +39,10 @@ pub returns-in-Ok-clause-ended : goal.returns-in-Ok-clause-ended
 returns-in-Ok-clause-ended g c = λ t files run at clients.
     let some : c.args.piece.now ≡ [] → ⊥ = some_is c.args.piece.now c.if-is_empty.ensures in
     subst (λ (r : Report). HasRun files r (g.D.Disk.view c.args.host.now.disk) (g.D.Disk.view c.turn.new.host.disk) run (g.O.Sink.written c.args.out.now) (g.O.Sink.written c.turn.new.out) Done) (sym (one_line files.size c.args.piece.now run c.args.number some))
-    (answered_all g.D.Disk.view files c.args.piece.now c.args.number c.args.host.now c.turn.new.host run (g.O.Sink.written c.args.out.now) (g.O.Sink.written c.turn.new.out) c.turn.new.clients (c.in-Ok.ensures.turns t files run at clients))
+    (answered_all g.D.Disk.view files c.args.piece.now c.args.number c.args.host.now c.turn.new.host run (g.O.Sink.written c.args.out.now) (g.O.Sink.written c.turn.new.out) c.turn.new.clients (c.in-Ok.ensures.told t files run at clients))
 
 pub returns-in-Err-clause-ended : goal.returns-in-Err-clause-ended
 returns-in-Err-clause-ended g c = λ t files run at clients.
     let some : c.args.piece.now ≡ [] → ⊥ = some_is c.args.piece.now c.if-is_empty.ensures in
     subst (λ (r : Report). HasRun files r (g.D.Disk.view c.args.host.now.disk) (g.D.Disk.view c.turn.new.host.disk) run (g.O.Sink.written c.args.out.now) (g.O.Sink.written c.turn.new.out) c.in-Err.ending) (sym (one_line files.size c.args.piece.now run c.args.number some))
-    (c.in-Err.ensures.turns t files run at clients (λ _. ends Done))
+    (c.in-Err.ensures.told t files run at clients (λ _. ends Done))

@@ -58,7 +58,7 @@ returns-in-Err-clause-ended g c = λ t files run at clients bytes left.
     let m = c.loop-piece.invariant.met t files run at clients bytes left in
     let f = is_piece _ _ _ _ _ _ _ _ c.in-Line.is (c.in-Ok.ensures.finds m.rest m.left_is) in
     line_exit _ _ _ _ _ _ _ _ _ _ _ _ _ m _ _ _ (omega (arith, c.next_piece.new.self.limit)) _ f c.in-Line.length f.piece.0 _ (ap (λ (l : List ℕ). take c.in-Line.length l) c.bytes.ensures) _ _ _ (λ is. c.in-Err.ensures.keeps.read_fault (ap (λ (e : Ending). Err e) is))
-    (c.in-Err.ensures.turns t files _ m.at m.clients_are)
+    (c.in-Err.ensures.told t files _ m.at m.clients_are)
 
 line_within : (p : Piece) (n : ℕ) (held : List ℕ) → p ≡ Line n → IsLineWithin p held → n < length held
 line_within p n held is within = let P : Piece → Type 0 = λ p. IsLineWithin p held in subst P is within
@@ -72,7 +72,7 @@ loop-piece-preserved g c =
           let m = c.loop-piece.invariant.met t files run at clients bytes left in
           let f = is_piece _ _ _ _ _ _ _ _ c.in-Line.is (c.in-Ok.ensures.finds m.rest m.left_is) in
           after_turn _ _ _ _ _ _ _ _ _ _ _ _ _ m _ _ _ (omega (arith, c.next_piece.new.self.limit)) _ f c.in-Line.length f.piece.0 f.left_is _ (ap (λ (l : List ℕ). take c.in-Line.length l) c.bytes.ensures) _ _ _
-          (c.in-Ok-turn.ensures.turns t files _ m.at m.clients_are) _ c.skip.ensures.held _ c.skip.ensures.taken;
+          (c.in-Ok-turn.ensures.told t files _ m.at m.clients_are) _ c.skip.ensures.held _ c.skip.ensures.taken;
       keeps = keeps_further g.D.Disk.tells g.D.Disk.view g.D.Disk.faults c.args.host.now c.loop-piece.host c.turn.new.host (g.O.Sink.faults c.args.out.now) (g.O.Sink.faults c.loop-piece.out) (g.O.Sink.faults c.turn.new.out) c.loop-piece.invariant.keeps ⊥ ⊥ (λ no. no) goes_on c.in-Ok-turn.ensures.keeps;
       front = λ bytes left.
           let before = c.loop-piece.invariant.front bytes left in

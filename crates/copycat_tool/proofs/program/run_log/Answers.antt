@@ -1,6 +1,6 @@
 use Rattle.std.proofs.Common.{◌<◌, inl, inr, take, refl, sym, ap, subst, ◌∙◌, List, Some, Err, arith}
 use Rattle.script_io.specs.Streams.{Rose}
-use Rattle.segment_set.specs.Opening.{id_from}
+use Rattle.segment_set.specs.Load.{id_from}
 use Rattle.host_recovery.specs.Standing.{layout_in}
 use Rattle.resource_catalog.specs.Catalog.{catalog_decision}
 use Rattle.copycat_tool.specs.Programs.{RunsInOrder}

@@ -1,12 +1,21 @@
+use Rattle.std.proofs.Common.{rules}
 use Rattle.copycat_tool.specs.Report.{admission, answer_by}
 use Rattle.copycat_tool.proofs.TurnLemmas.{call_cut, put_told}
 use Rattle.copycat_tool.proofs.turns.answer_offer.Goals as goal
 
-pub returns-in-Ok-clause-answers : goal.returns-in-Ok-clause-answers
-returns-in-Ok-clause-answers g c = λ t files run at.
-    put_told g.D.Disk.view files c.args.host.now c.make_offer.new.host run (answer_by (admission run c.args.one.now) run c.args.one.now) (g.O.Sink.written c.args.out.now) (g.O.Sink.written c.put_answer.new.out) _ _
-    c.in-Ok.told (c.in-Ok.ensures.answered t files run at) c.put_answer.result c.put_answer.ensures.put
+pub returns-in-Ok : goal.returns-in-Ok
+returns-in-Ok g c = record {
+  runs = search rules;
+  told = λ t files run at.
+      put_told g.D.Disk.view files c.args.host.now c.make_offer.new.host run (answer_by (admission run c.args.one.now) run c.args.one.now) (g.O.Sink.written c.args.out.now) (g.O.Sink.written c.put_answer.new.out) _ _
+      c.in-Ok.told (c.in-Ok.ensures.answered t files run at) c.put_answer.result c.put_answer.ensures.put;
+  keeps = search rules;
+}
 
-pub returns-in-Err-clause-answers : goal.returns-in-Err-clause-answers
-returns-in-Err-clause-answers g c = λ t files run at.
-    call_cut g.D.Disk.view files c.args.host.now c.make_offer.new.host run (answer_by (admission run c.args.one.now) run c.args.one.now) c.in-Err.ending (g.O.Sink.written c.args.out.now) (c.in-Err.ensures.cut t files run at)
+pub returns-in-Err : goal.returns-in-Err
+returns-in-Err g c = record {
+  runs = search rules;
+  told = λ t files run at.
+      call_cut g.D.Disk.view files c.args.host.now c.make_offer.new.host run (answer_by (admission run c.args.one.now) run c.args.one.now) c.in-Err.ending (g.O.Sink.written c.args.out.now) (c.in-Err.ensures.cut t files run at);
+  keeps = search rules;
+}

@@ -7,7 +7,7 @@ use Rattle.disk_model.specs.Image.{IsFileId, Place}
 use Rattle.disk_model.specs.View.{MayHold}
 use Rattle.disk_model.proofs.Moments.{started}
 use Rattle.segment_files.specs.Folder.{folder, IsFirstDamaged}
-use Rattle.segment_set.specs.Opening.{Surveyed, opened_id}
+use Rattle.segment_set.specs.Load.{Surveyed, opened_id}
 use Rattle.segment_set.proofs.Surveying.{none_surveyed}
 use Rattle.segment_set.proofs.Turns.{SurveyIs, listed_now, left_further, damaged_first, turned, found_id, ids_more}
 use Rattle.segment_set.proofs.opening.read_all.Goals as goal

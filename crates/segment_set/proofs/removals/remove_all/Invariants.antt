@@ -1,5 +1,5 @@
 use Rattle.std.proofs.Common.{◌≤◌, IsTrue}
-use Rattle.segment_set.specs.Opening.{RemovedSoFar}
+use Rattle.segment_set.specs.Load.{RemovedSoFar}
 use Rattle.segment_set.proofs.removals.remove_all.Given as goal
 
 abbrev pub invariant-loop-id : goal.invariant-loop-id

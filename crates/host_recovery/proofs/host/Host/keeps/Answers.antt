@@ -7,7 +7,7 @@ use Rattle.log_model.specs.hosted.Hosted.{Hosted}
 use Rattle.log_model.specs.cleaning.Layout.{alone, needs_file}
 use Rattle.log_model.proofs.hosted.HostedLogs.{whole}
 use Rattle.host_recovery.specs.HostState.{HostState}
-use Rattle.host_recovery.specs.Lying.{LiesAlone}
+use Rattle.host_recovery.specs.FileLayout.{LiesAlone}
 use Rattle.host_recovery.specs.Logs.{StandsFor, hosted_form}
 use Rattle.host_recovery.specs.Standing.{StandsAt, layout_in}
 use Rattle.host_recovery.proofs.Growing.{stands_for}

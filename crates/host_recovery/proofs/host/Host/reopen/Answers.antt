@@ -6,13 +6,13 @@ use Rattle.disk_model.specs.Image.{Image}
 use Rattle.disk_model.specs.View.{LeavesAt, LeavesOnly, MayHold}
 use Rattle.segment_set.specs.declared.opening.OpenError.TheVariants.{Damaged as Is_damaged}
 use Rattle.segment_set.specs.Fits.{FilesFit, IsEmptyWhereNone, IsTailHeld, parts_in, tail_parts, without_room}
-use Rattle.segment_set.specs.Opening.{id_from}
+use Rattle.segment_set.specs.Load.{id_from}
 use Rattle.log_model.specs.plain.Admission.{Item}
 use Rattle.log_model.specs.hosted.Hosted.{hosted_stored, hosted_told}
 use Rattle.log_model.specs.cleaning.Layout.{alone}
 use Rattle.log_model.specs.replay.Replay.{replayed}
 use Rattle.host_core.specs.CoreState.{hosted}
-use Rattle.host_recovery.specs.Lying.{Lies}
+use Rattle.host_recovery.specs.FileLayout.{Lies}
 use Rattle.host_recovery.specs.Logs.{HasPrefix, IsInOrder, StandsFor, hosted_form}
 use Rattle.host_recovery.specs.Opening.{OpensAt}
 use Rattle.host_recovery.specs.HostState.{HostState}

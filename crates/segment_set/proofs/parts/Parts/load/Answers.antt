@@ -6,7 +6,7 @@ use Rattle.segment_files.specs.Parse.{base_place}
 use Rattle.segment_files.specs.Folder.{Folder, folder, IsFault, IsFirstDamaged}
 use Rattle.segment_set.specs.declared.opened.Opened.{Opened}
 use Rattle.segment_set.specs.declared.opening.OpenError.TheVariants.{Damaged}
-use Rattle.segment_set.specs.Opening.{AreListed, OpenedIs, OrGone, Surveyed, id_from, opened_id}
+use Rattle.segment_set.specs.Load.{AreListed, OpenedIs, OrGone, Surveyed, id_from, opened_id}
 use Rattle.segment_set.proofs.Picking.{in_order, like_at_first, like_still, like_removed}
 use Rattle.segment_set.proofs.Loading.{closed_listed}
 use Rattle.segment_set.proofs.Loaded.{opens_by, loaded_choice, loaded_fits, loaded_offsets, loaded_held, loaded_greatest, unbased}

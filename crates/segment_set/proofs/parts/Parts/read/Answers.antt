@@ -4,7 +4,7 @@ use Rattle.segment_files.specs.declared.reading.FileFault.{FileFault}
 use Rattle.segment_files.specs.declared.reading.FileFault.TheVariants.{Damaged, Failed, NoMemory}
 use Rattle.disk_model.specs.declared.file_id.FileId.{FileId}
 use Rattle.segment_set.specs.declared.opening.OpenError.TheVariants.{Damaged as Is_damaged}
-use Rattle.segment_set.specs.Opening.{file_error}
+use Rattle.segment_set.specs.Load.{file_error}
 use Rattle.segment_files.specs.Contents.{IsNoDamage}
 use Rattle.segment_files.specs.Folder.{entries_of}
 use Rattle.segment_set.specs.Fits.{parts_in}
