@@ -3,14 +3,15 @@ use Rattle.std.proofs.Common.{◌≡◌, ℕ, ◌+◌, ◌≤◌, List, [], ◌�
 use Rattle.host_types.specs.declared.entry.Entry.{Entry}
 use Rattle.disk_model.specs.declared.file_id.FileId.{FileId}
 use Rattle.disk_model.specs.Image.{place}
-use Rattle.disk_model.specs.View.{View, LeavesOnly}
+use Rattle.disk_model.specs.View.{View, IsSound, LeavesOnly}
 use Rattle.segment_files.specs.Files.{KeepsOthers}
 use Rattle.segment_files.specs.Parse.{Part, Whole}
 use Rattle.segment_files.specs.Folder.{folder, EachHas}
 use Rattle.segment_set.specs.declared.tail.Tail.{Tail}
 use Rattle.segment_set.specs.Growth.{HasOrGains}
-use Rattle.segment_set.specs.Fits.{FilesFit, IsFrameFor, IsTailHeld, IsTailAt, IsTailOf, StandsOrGains, TailFits, TailIs, frame_size, gained, greatest_after, log_of, tail_parts, with_entry}
+use Rattle.segment_set.specs.Fits.{FilesFit, IsEmptyWhereNone, IsFrameFor, IsTailHeld, IsTailAt, IsTailOf, StandsOrGains, TailFits, TailIs, frame_size, gained, greatest_after, log_of, tail_parts, with_entry}
 use Rattle.segment_set.specs.Tails.{tail_last}
+use Rattle.segment_set.proofs.Emptied.{tail_listed}
 use Rattle.segment_set.proofs.Loading.{bytes_of_whole}
 use Rattle.segment_set.proofs.Gaining.{whole_plain, with_or_without, list_at, fits_at}
 
@@ -52,8 +53,23 @@ module _ (v : View) (name : List ℕ) (old : Option Tail) (greatest : ℕ) (tail
   pub advances_held : (w : View) (next : Tail) (p : Part) (entry : Entry) → IsTailAt w name next (with_entry p entry) → EachHas w name (with_entry p entry ∷ []) → IsTailHeld w name (Some next)
   advances_held w next p entry at each = subst (EachHas w name) (sym (list_at w name next (with_entry p entry) at.whole)) each
 
-  pub advances_left : (w : View) (p : Part) (entry : Entry) → folder name v.reading tail.id ≡ Whole p → LeavesOnly v w (HasOrGains name p ((p.last + 1, entry) ∷ []) (frame_size (p.last + 1) entry))
+  -- while a frame is pushed
+  abbrev pub Pushes : View → List ℕ → Type 0
+  Pushes w frame = (part : Part) (entry : Entry) → folder name v.reading tail.id ≡ Whole part → IsFrameFor tail.last frame entry
+      → EachHas v name (part ∷ []) → LeavesOnly v w (HasOrGains name part ((part.last + 1, entry) ∷ []) (frame_size (part.last + 1) entry))
+
+  pub advances_left : (w : View) (frame : List ℕ) (entry : Entry) → FilesFit v name old greatest → Pushes w frame → IsTailHeld v name old → IsFrameFor (tail_last old) frame entry
       → LeavesOnly v w (StandsOrGains name (log_of (tail_parts v.reading name old)) entry)
-  advances_left w p entry whole only =
-      subst (λ (l : List Part). LeavesOnly v w (StandsOrGains name (log_of l) entry)) (sym (list_is p whole))
-      (with_or_without v w name tail.id p entry (whole_plain v name tail.id p whole) tail.base_is only)
+  advances_left w frame entry fits pushes held f =
+      let t = tail_fits fits in
+      subst (λ (l : List Part). LeavesOnly v w (StandsOrGains name (log_of l) entry)) (sym (list_is t.part t.at.whole))
+      (with_or_without v w name tail.id t.part entry (whole_plain v name tail.id t.part t.at.whole) tail.base_is
+      (pushes t.part entry t.at.whole (frame_at frame entry f) (held_at t.part t.at.whole held)))
+
+  -- the tail stays listed
+  pub advances_empty : (w : View) (frame : List ℕ) → FilesFit v name old greatest → Pushes w frame → IsSound w → (entry : Entry) × IsFrameFor tail.last frame entry → IsTailHeld v name old → IsEmptyWhereNone w name
+  advances_empty w frame fits pushes sound some_entry held none =
+      let t = tail_fits fits in
+      let entry = some_entry.0 in
+      absurd (tail_listed v w name t.part ((t.part.last + 1, entry) ∷ []) (frame_size (t.part.last + 1) entry) sound
+      (pushes t.part entry t.at.whole some_entry.1 (held_at t.part t.at.whole held)) none)

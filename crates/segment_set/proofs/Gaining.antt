@@ -3,9 +3,9 @@ use Rattle.std.proofs.Common.{◌≡◌, ◌≢◌, inl, inr, ⊎_elim, ℕ, ◌
 use Rattle.std.proofs.lemmas.List.{append-nil}
 use Rattle.host_types.specs.declared.entry.Entry.{Entry}
 use Rattle.disk_model.specs.declared.file_id.FileId.{FileId}
-use Rattle.disk_model.specs.Image.{Place, place}
+use Rattle.disk_model.specs.Image.{Place, Image, place}
 use Rattle.disk_model.specs.View.{View, IsListed, LeavesOnly}
-use Rattle.disk_model.proofs.Moments.{weaker, goes_further}
+use Rattle.disk_model.proofs.Moments.{weaker}
 use Rattle.disk_model.proofs.Names.{place_cases}
 use Rattle.segment_files.specs.Files.{KeepsOthers}
 use Rattle.segment_files.specs.Parse.{Part, Whole}
@@ -59,17 +59,10 @@ with_or_without v w name id p entry plain base only =
     (λ c has. ⊎_elim (λ same. inl (stands_one (folder name c) id p same plain base)) (λ more. inr (stands_grown (folder name c) id p entry more plain base)) has)
 
 -- while the first file is made
-pub while_made : (v w : View) (name : List ℕ) (id : FileId) (size : ℕ) (entry : Entry) → id.base ≡ 1 → LeavesOnly v w (HasNoneOr name (new_tail id size)) → LeavesOnly v w (StandsOrGains name [] entry)
-while_made v w name id size entry base only =
-    weaker v w (HasNoneOr name (new_tail id size)) (StandsOrGains name [] entry) only
-    (λ c has. inl (⊎_elim (λ none. stands_none (folder name c) none) (λ one. stands_one (folder name c) id (new_tail id size) one (new_plain id size) base) has))
-
--- and then its first frame appended
-pub made_and_pushed : (v m w : View) (name : List ℕ) (id : FileId) (size : ℕ) (entry : Entry) → id.base ≡ 1 → LeavesOnly v m (HasNoneOr name (new_tail id size))
-    → LeavesOnly m w (HasOrGains name (new_tail id size) (((new_tail id size).last + 1, entry) ∷ []) (frame_size ((new_tail id size).last + 1) entry)) → LeavesOnly v w (StandsOrGains name [] entry)
-made_and_pushed v m w name id size entry base made pushed =
-    goes_further v m w (StandsOrGains name [] entry) (while_made v m name id size entry base made)
-    (with_or_without m w name id (new_tail id size) entry (new_plain id size) base pushed)
+pub left_made : (v w : View) (name : List ℕ) (id : FileId) (size : ℕ) → id.base ≡ 1 → LeavesOnly v w (HasNoneOr name (new_tail id size)) → LeavesOnly v w (λ (image : Image). Stands (folder name image) [])
+left_made v w name id size base only =
+    weaker v w (HasNoneOr name (new_tail id size)) (λ (image : Image). Stands (folder name image) []) only
+    (λ c has. ⊎_elim (λ none. stands_none (folder name c) none) (λ one. stands_one (folder name c) id (new_tail id size) one (new_plain id size) base) has)
 
 -- WHAT THE DISK FITS
 

@@ -146,8 +146,9 @@ with_entry part entry = grown part ((part.last + 1, entry) ∷ []) (frame_size (
 abbrev pub first_id : ℕ → FileId
 first_id generation = record { base = 1; generation = generation }
 
-pub record IsFirstTail (tail : Tail) (generation size : ℕ) : Type 0 where
-  pub id : tail.id ≡ first_id generation
+-- it is a new file with no entries
+pub record IsNewTail (tail : Tail) (id : FileId) (size : ℕ) : Type 0 where
+  pub id_is : tail.id ≡ id
   pub last : tail.last ≡ 0
   pub gate : tail.gate ≡ 64
   pub size_is : tail.size ≡ size

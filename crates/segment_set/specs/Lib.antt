@@ -1,3 +1,4 @@
+pub mod Appends
 pub mod Fits
 pub mod Growth
 pub mod Load

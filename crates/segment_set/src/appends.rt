@@ -9,8 +9,9 @@ ghost use Rattle.segment_files.specs.Contents.{Offset_list, appended_descriptor,
 ghost use Rattle.offset_index.specs.Indexed.{MayFollow};
 ghost use Rattle.segment_files.specs.Parse.{Part, Whole};
 ghost use Rattle.segment_files.specs.Folder.{EachHas, folder};
+ghost use Rattle.segment_set.specs.Appends.{Appends, BeginsOn};
 ghost use Rattle.segment_set.specs.Growth.{HasNoneOr, HasOrGains, new_tail};
-ghost use Rattle.segment_set.specs.Fits.{ArePlaced, FilesFit, Fits, IsEmptyWhereNone, IsFirstTail, IsFrameFor, IsHeld, IsMade, IsTailAt, KeepsNames, StandsOrGains, TailFits, first_id, frame_size, gained, greatest_after, last_of, log_of, parts_in, with_entry, without_room};
+ghost use Rattle.segment_set.specs.Fits.{ArePlaced, Fits, IsFrameFor, IsMade, IsNewTail, IsTailAt, TailFits, frame_size, last_of, with_entry, without_room};
 
 use crate::parts::{GENERATION_LIMIT, Parts};
 use crate::tail::Tail;
@@ -47,6 +48,20 @@ fn make_file<D: Disk>(disk: &mut D, name: &LogName, id: FileId, size: u32) -> Re
 {
     let behind = behind_gate(id, size);
     make_tail(disk, name, id, &behind)
+}
+
+/// A file with no entries, as a tail.
+fn empty_tail(id: FileId, size: u32) -> Tail
+    requires id { IsFileId id }
+    requires base { id.base ≡ 1 }
+    ensures { IsNewTail result id size }
+{
+    Tail {
+        id,
+        last: 0,
+        gate: 64,
+        size,
+    }
 }
 
 /// Appends a frame to the tail, and answers the tail with its entry. A crash at any moment leaves the frame whole or absent.
@@ -138,20 +153,16 @@ impl Parts {
 
     /// Makes the log's first file, with no entries, and takes it as its tail.
     fn begin<D: Disk>(&mut self, disk: &mut D, size: u32) -> Result<Tail, DiskFault>
-        requires fits { IsTrue D.tells → FilesFit (D.view disk.old) self.old.name self.old.tail self.old.greatest }
+        requires fits { IsTrue D.tells → Fits (D.view disk.old) self.old }
         requires none { self.old.tail ≡ None }
         requires generation { self.old.greatest < index_limit }
         requires least { 2 ≤ size }
         requires most { size ≤ 65536 }
-        ensures tail { IfOk result (λ tail. IsFirstTail tail (self.old.greatest + 1) size) }
-        ensures name { self.new.name ≡ self.old.name }
+        ensures tail { IfOk result (λ tail. (self.new.tail ≡ Some tail) × (tail.last ≡ 0)) }
         ensures offsets { self.new.offsets ≡ self.old.offsets }
         ensures greatest { OnOk result (self.new.greatest ≡ self.old.greatest + 1) }
-        ensures made { IfOk result (λ tail. IsTrue D.tells → IsTailAt (D.view disk.new) self.old.name tail (new_tail tail.id size)) }
-        ensures any_moment { IsTrue D.tells → EachHas (D.view disk.old) self.old.name [] → LeavesOnly (D.view disk.old) (D.view disk.new) (HasNoneOr self.old.name (new_tail (first_id (self.old.greatest + 1)) size)) }
-        ensures held { IfOk result (λ tail. IsTrue D.tells → EachHas (D.view disk.old) self.old.name [] → EachHas (D.view disk.new) self.old.name (new_tail tail.id size ∷ [])) }
-        ensures unlisted { IsTrue D.tells → EachHas (D.view disk.old) self.old.name [] → (D.view disk.new).reading (place self.old.name (first_id (self.old.greatest + 1))) ≡ None → EachHas (D.view disk.new) self.old.name [] }
-        ensures others { IsTrue D.tells → KeepsOthers (D.view disk.old) (D.view disk.new) (place self.old.name (first_id (self.old.greatest + 1))) }
+        ensures name { self.new.name ≡ self.old.name }
+        ensures told { IsTrue D.tells → BeginsOn (D.view disk.old) (D.view disk.new) self.old self.new size result }
         ensures cause { HasCause (D.faults disk.old) (D.faults disk.new) result }
     {
         let id = FileId {
@@ -160,19 +171,16 @@ impl Parts {
         };
         match make_file(disk, &self.name, id, size) {
             Ok(()) => {
+                let tail = empty_tail(id, size);
                 self.greatest += 1;
-                Ok(Tail {
-                    id,
-                    last: 0,
-                    gate: 64,
-                    size,
-                })
+                self.tail = Some(tail);
+                Ok(tail)
             }
             Err(fault) => Err(fault),
         }
     }
 
-    /// Appends a frame to the tail.
+    /// Appends a frame to the tail. No file is made, so the size of a new one is any.
     fn append_to<D: Disk>(
         &mut self,
         disk: &mut D,
@@ -184,18 +192,7 @@ impl Parts {
         requires room { tail.last < last_limit }
         requires frame { (entry : Entry) × IsFrameFor tail.last frame.now entry }
         requires prepared { 1 ≤ self.old.offsets.spare }
-        ensures parts { OnOk result (IsTrue D.tells → (size : ℕ) (entry : Entry) → IsFrameFor (last_of self.old) frame.now entry
-            → parts_in (D.view disk.new).reading self.new ≡ gained size self.old.greatest (parts_in (D.view disk.old).reading self.old) entry) }
-        ensures fits { OnOk result (IsTrue D.tells → Fits (D.view disk.new) self.new) }
-        ensures held { OnOk result (IsTrue D.tells → IsHeld (D.view disk.old) self.old → IsHeld (D.view disk.new) self.new) }
-        ensures last { OnOk result (last_of self.new ≡ last_of self.old + 1) }
-        ensures greatest { OnOk result (self.new.greatest ≡ greatest_after self.old.tail self.old.greatest) }
-        ensures any_moment { IsTrue D.tells → IsHeld (D.view disk.old) self.old → (entry : Entry) → IsFrameFor (last_of self.old) frame.now entry
-            → LeavesOnly (D.view disk.old) (D.view disk.new) (StandsOrGains self.old.name (log_of (parts_in (D.view disk.old).reading self.old)) entry) }
-        ensures empty { IsTrue D.tells → IsHeld (D.view disk.old) self.old → IsEmptyWhereNone (D.view disk.new) self.old.name }
-        ensures name { self.new.name ≡ self.old.name }
-        ensures others { IsTrue D.tells → KeepsNames (D.view disk.old) (D.view disk.new) self.old.name }
-        ensures cause { HasCause (D.faults disk.old) (D.faults disk.new) result }
+        ensures { (size : ℕ) → Appends D.tells (D.view disk.old) (D.view disk.new) (D.faults disk.old) (D.faults disk.new) self.old self.new frame.now size result }
     {
         match push_frame(disk, &self.name, tail, frame) {
             Ok(next) => {
@@ -207,50 +204,9 @@ impl Parts {
         }
     }
 
-    /// Makes the first file, and appends a frame to it.
-    fn append_first<D: Disk>(
-        &mut self,
-        disk: &mut D,
-        frame: &[u8],
-        size: u32,
-    ) -> Result<(), DiskFault>
-        requires fits { IsTrue D.tells → Fits (D.view disk.old) self.old }
-        requires none { self.old.tail ≡ None }
-        requires generation { self.old.greatest < index_limit }
-        requires least { 2 ≤ size }
-        requires most { size ≤ 65536 }
-        requires frame { (entry : Entry) × IsFrameFor 0 frame.now entry }
-        requires prepared { 1 ≤ self.old.offsets.spare }
-        ensures parts { OnOk result (IsTrue D.tells → (entry : Entry) → IsFrameFor (last_of self.old) frame.now entry
-            → parts_in (D.view disk.new).reading self.new ≡ gained size self.old.greatest (parts_in (D.view disk.old).reading self.old) entry) }
-        ensures fits { OnOk result (IsTrue D.tells → Fits (D.view disk.new) self.new) }
-        ensures held { OnOk result (IsTrue D.tells → IsHeld (D.view disk.old) self.old → IsHeld (D.view disk.new) self.new) }
-        ensures last { OnOk result (last_of self.new ≡ last_of self.old + 1) }
-        ensures greatest { OnOk result (self.new.greatest ≡ greatest_after self.old.tail self.old.greatest) }
-        ensures any_moment { IsTrue D.tells → IsHeld (D.view disk.old) self.old → (entry : Entry) → IsFrameFor (last_of self.old) frame.now entry
-            → LeavesOnly (D.view disk.old) (D.view disk.new) (StandsOrGains self.old.name (log_of (parts_in (D.view disk.old).reading self.old)) entry) }
-        ensures empty { IsTrue D.tells → IsHeld (D.view disk.old) self.old → IsEmptyWhereNone (D.view disk.new) self.old.name }
-        ensures name { self.new.name ≡ self.old.name }
-        ensures others { IsTrue D.tells → KeepsNames (D.view disk.old) (D.view disk.new) self.old.name }
-        ensures cause { HasCause (D.faults disk.old) (D.faults disk.new) result }
-    {
-        let tail = match self.begin(disk, size) {
-            Ok(tail) => tail,
-            Err(fault) => return Err(fault),
-        };
-        match push_frame(disk, &self.name, tail, frame) {
-            Ok(next) => {
-                note(&mut self.offsets, tail.last, tail.gate + FRAME_HEAD);
-                self.tail = Some(next);
-                Ok(())
-            }
-            Err(fault) => Err(fault),
-        }
-    }
-
-    /// Appends a frame with the next entry, which has the shut gate behind it as its last byte. Where there is no file yet, it makes one of this size first, with the next
-    /// generation. A crash at any moment leaves the log without the entry or with it; from an Ok on it is there. Room for it was made
-    /// by `prepare_append`.
+    /// Appends a frame with the next entry, which has the shut gate behind it as its last byte. Where there is no file yet, it
+    /// makes one of this size first, with the next generation. A crash at any moment leaves the log without the entry or with
+    /// it; from an Ok on it is there. Room for it was made by `prepare_append`.
     pub fn append<D: Disk>(
         &mut self,
         disk: &mut D,
@@ -264,22 +220,14 @@ impl Parts {
         requires most { size ≤ 65536 }
         requires frame { (entry : Entry) × IsFrameFor (last_of self.old) frame.now entry }
         requires prepared { 1 ≤ self.old.offsets.spare }
-        ensures parts { OnOk result (IsTrue D.tells → (entry : Entry) → IsFrameFor (last_of self.old) frame.now entry
-            → parts_in (D.view disk.new).reading self.new ≡ gained size self.old.greatest (parts_in (D.view disk.old).reading self.old) entry) }
-        ensures fits { OnOk result (IsTrue D.tells → Fits (D.view disk.new) self.new) }
-        ensures held { OnOk result (IsTrue D.tells → IsHeld (D.view disk.old) self.old → IsHeld (D.view disk.new) self.new) }
-        ensures last { OnOk result (last_of self.new ≡ last_of self.old + 1) }
-        ensures greatest { OnOk result (self.new.greatest ≡ greatest_after self.old.tail self.old.greatest) }
-        ensures any_moment { IsTrue D.tells → IsHeld (D.view disk.old) self.old → (entry : Entry) → IsFrameFor (last_of self.old) frame.now entry
-            → LeavesOnly (D.view disk.old) (D.view disk.new) (StandsOrGains self.old.name (log_of (parts_in (D.view disk.old).reading self.old)) entry) }
-        ensures empty { IsTrue D.tells → IsHeld (D.view disk.old) self.old → IsEmptyWhereNone (D.view disk.new) self.old.name }
-        ensures name { self.new.name ≡ self.old.name }
-        ensures others { IsTrue D.tells → KeepsNames (D.view disk.old) (D.view disk.new) self.old.name }
-        ensures cause { HasCause (D.faults disk.old) (D.faults disk.new) result }
+        ensures { Appends D.tells (D.view disk.old) (D.view disk.new) (D.faults disk.old) (D.faults disk.new) self.old self.new frame.now size result }
     {
         match self.tail {
             Some(tail) => self.append_to(disk, tail, frame),
-            None => self.append_first(disk, frame, size),
+            None => match self.begin(disk, size) {
+                Ok(tail) => self.append_to(disk, tail, frame),
+                Err(fault) => Err(fault),
+            },
         }
     }
 }

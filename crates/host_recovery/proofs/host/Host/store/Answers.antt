@@ -52,25 +52,25 @@ pub returns-in-Ok-append-clause-any_moment : goal.returns-in-Ok-append-clause-an
 returns-in-Ok-append-clause-any_moment g c =
     subst (λ (h : HostState g.row.D.Denot g.row.M.Denot). IsTrue g.D.Disk.tells → IsTailHeld (g.D.Disk.view h.disk) h.parts.name h.parts.tail → LeavesOnly (g.D.Disk.view h.disk) (g.D.Disk.view c.append.new.disk) (StandsOrGains h.parts.name (log_in (g.D.Disk.view h.disk) h.parts) c.args.entry)) c.self.view_is
     (λ t held. subst (λ (p : Parts). LeavesOnly (g.D.Disk.view c.self.inside.disk) (g.D.Disk.view c.append.new.disk) (StandsOrGains p.name (log_in (g.D.Disk.view c.self.inside.disk) p) c.args.entry)) c.prepare_append.ensures.same
-    (c.append.ensures.any_moment t (subst (λ (p : Parts). IsHeld (g.D.Disk.view c.self.inside.disk) p) (sym c.prepare_append.ensures.same) held) c.args.entry (frame_for (tail_last c.prepare_append.new.self.tail) c.last-index.result c.deref.result.now c.args.entry (c.last-index.ensures ∙ c.self.invariant.last (ap (λ (h : HostState g.row.D.Denot g.row.M.Denot). h.stopped) c.self.view_is ∙ c.requires.runs) ∙ sym (ap (λ (p : Parts). tail_last p.tail) c.prepare_append.ensures.same))
+    ((c.append.ensures.told t).any_moment (subst (λ (p : Parts). IsHeld (g.D.Disk.view c.self.inside.disk) p) (sym c.prepare_append.ensures.same) held) c.args.entry (frame_for (tail_last c.prepare_append.new.self.tail) c.last-index.result c.deref.result.now c.args.entry (c.last-index.ensures ∙ c.self.invariant.last (ap (λ (h : HostState g.row.D.Denot g.row.M.Denot). h.stopped) c.self.view_is ∙ c.requires.runs) ∙ sym (ap (λ (p : Parts). tail_last p.tail) c.prepare_append.ensures.same))
     (subst (λ (n : ℕ). IsInRange (n + 1) c.args.entry) (sym (c.last-index.ensures ∙ ap (λ (h : HostState g.row.D.Denot g.row.M.Denot). h.core.last) c.self.view_is)) c.requires.range) c.requires.fits (c.deref.ensures.value ∙ c.in-Ok.ensures))))
 
 pub returns-in-Ok-append-clause-empty : goal.returns-in-Ok-append-clause-empty
 returns-in-Ok-append-clause-empty g c =
     subst (λ (h : HostState g.row.D.Denot g.row.M.Denot). IsTrue g.D.Disk.tells → IsTailHeld (g.D.Disk.view h.disk) h.parts.name h.parts.tail → IsEmptyWhereNone (g.D.Disk.view c.append.new.disk) h.parts.name) c.self.view_is
-    (λ t held. subst (λ (p : Parts). IsEmptyWhereNone (g.D.Disk.view c.append.new.disk) p.name) c.prepare_append.ensures.same (c.append.ensures.empty t (subst (λ (p : Parts). IsHeld (g.D.Disk.view c.self.inside.disk) p) (sym c.prepare_append.ensures.same) held)))
+    (λ t held. subst (λ (p : Parts). IsEmptyWhereNone (g.D.Disk.view c.append.new.disk) p.name) c.prepare_append.ensures.same ((c.append.ensures.told t).empty (subst (λ (p : Parts). IsHeld (g.D.Disk.view c.self.inside.disk) p) (sym c.prepare_append.ensures.same) held)))
 
 pub returns-in-Err-append-clause-any_moment : goal.returns-in-Err-append-clause-any_moment
 returns-in-Err-append-clause-any_moment g c =
     subst (λ (h : HostState g.row.D.Denot g.row.M.Denot). IsTrue g.D.Disk.tells → IsTailHeld (g.D.Disk.view h.disk) h.parts.name h.parts.tail → LeavesOnly (g.D.Disk.view h.disk) (g.D.Disk.view c.append.new.disk) (StandsOrGains h.parts.name (log_in (g.D.Disk.view h.disk) h.parts) c.args.entry)) c.self.view_is
     (λ t held. subst (λ (p : Parts). LeavesOnly (g.D.Disk.view c.self.inside.disk) (g.D.Disk.view c.append.new.disk) (StandsOrGains p.name (log_in (g.D.Disk.view c.self.inside.disk) p) c.args.entry)) c.prepare_append.ensures.same
-    (c.append.ensures.any_moment t (subst (λ (p : Parts). IsHeld (g.D.Disk.view c.self.inside.disk) p) (sym c.prepare_append.ensures.same) held) c.args.entry (frame_for (tail_last c.prepare_append.new.self.tail) c.last-index.result c.deref.result.now c.args.entry (c.last-index.ensures ∙ c.self.invariant.last (ap (λ (h : HostState g.row.D.Denot g.row.M.Denot). h.stopped) c.self.view_is ∙ c.requires.runs) ∙ sym (ap (λ (p : Parts). tail_last p.tail) c.prepare_append.ensures.same))
+    ((c.append.ensures.told t).any_moment (subst (λ (p : Parts). IsHeld (g.D.Disk.view c.self.inside.disk) p) (sym c.prepare_append.ensures.same) held) c.args.entry (frame_for (tail_last c.prepare_append.new.self.tail) c.last-index.result c.deref.result.now c.args.entry (c.last-index.ensures ∙ c.self.invariant.last (ap (λ (h : HostState g.row.D.Denot g.row.M.Denot). h.stopped) c.self.view_is ∙ c.requires.runs) ∙ sym (ap (λ (p : Parts). tail_last p.tail) c.prepare_append.ensures.same))
     (subst (λ (n : ℕ). IsInRange (n + 1) c.args.entry) (sym (c.last-index.ensures ∙ ap (λ (h : HostState g.row.D.Denot g.row.M.Denot). h.core.last) c.self.view_is)) c.requires.range) c.requires.fits (c.deref.ensures.value ∙ c.in-Ok.ensures))))
 
 pub returns-in-Err-append-clause-empty : goal.returns-in-Err-append-clause-empty
 returns-in-Err-append-clause-empty g c =
     subst (λ (h : HostState g.row.D.Denot g.row.M.Denot). IsTrue g.D.Disk.tells → IsTailHeld (g.D.Disk.view h.disk) h.parts.name h.parts.tail → IsEmptyWhereNone (g.D.Disk.view c.append.new.disk) h.parts.name) c.self.view_is
-    (λ t held. subst (λ (p : Parts). IsEmptyWhereNone (g.D.Disk.view c.append.new.disk) p.name) c.prepare_append.ensures.same (c.append.ensures.empty t (subst (λ (p : Parts). IsHeld (g.D.Disk.view c.self.inside.disk) p) (sym c.prepare_append.ensures.same) held)))
+    (λ t held. subst (λ (p : Parts). IsEmptyWhereNone (g.D.Disk.view c.append.new.disk) p.name) c.prepare_append.ensures.same ((c.append.ensures.told t).empty (subst (λ (p : Parts). IsHeld (g.D.Disk.view c.self.inside.disk) p) (sym c.prepare_append.ensures.same) held)))
 
 pub returns-in-Ok-append-clause-state : goal.returns-in-Ok-append-clause-state
 returns-in-Ok-append-clause-state g c =
@@ -82,20 +82,20 @@ pub returns-in-Ok-append-clause-log : goal.returns-in-Ok-append-clause-log
 returns-in-Ok-append-clause-log g c =
     subst (λ (h : HostState g.row.D.Denot g.row.M.Denot). IsTrue g.D.Disk.tells → log_in (g.D.Disk.view c.append.new.disk) c.append.new.self ≡ log_in (g.D.Disk.view h.disk) h.parts ++ c.args.entry ∷ []) c.self.view_is
     (λ t. subst (λ (p : Parts). log_in (g.D.Disk.view c.append.new.disk) c.append.new.self ≡ log_in (g.D.Disk.view c.self.inside.disk) p ++ c.args.entry ∷ []) c.prepare_append.ensures.same (shows_more (g.D.Disk.view c.self.inside.disk) (g.D.Disk.view c.append.new.disk) c.prepare_append.new.self c.append.new.self c.self.inside.size c.args.entry (subst (Fits (g.D.Disk.view c.self.inside.disk)) (sym c.prepare_append.ensures.same) (c.self.invariant.fits (ap (λ (h : HostState g.row.D.Denot g.row.M.Denot). h.stopped) c.self.view_is ∙ c.requires.runs) t)).files
-    (c.in-Ok-append.ensures.parts t c.args.entry (frame_for (tail_last c.prepare_append.new.self.tail) c.last-index.result c.deref.result.now c.args.entry (c.last-index.ensures ∙ c.self.invariant.last (ap (λ (h : HostState g.row.D.Denot g.row.M.Denot). h.stopped) c.self.view_is ∙ c.requires.runs) ∙ sym (ap (λ (p : Parts). tail_last p.tail) c.prepare_append.ensures.same))
+    ((c.in-Ok-append.ensures.told t).parts c.args.entry (frame_for (tail_last c.prepare_append.new.self.tail) c.last-index.result c.deref.result.now c.args.entry (c.last-index.ensures ∙ c.self.invariant.last (ap (λ (h : HostState g.row.D.Denot g.row.M.Denot). h.stopped) c.self.view_is ∙ c.requires.runs) ∙ sym (ap (λ (p : Parts). tail_last p.tail) c.prepare_append.ensures.same))
     (subst (λ (n : ℕ). IsInRange (n + 1) c.args.entry) (sym (c.last-index.ensures ∙ ap (λ (h : HostState g.row.D.Denot g.row.M.Denot). h.core.last) c.self.view_is)) c.requires.range) c.requires.fits (c.deref.ensures.value ∙ c.in-Ok.ensures))) c.in-Ok-append.ensures.greatest).0)
 
 pub returns-in-Ok-append-clause-layout : goal.returns-in-Ok-append-clause-layout
 returns-in-Ok-append-clause-layout g c =
     subst (λ (h : HostState g.row.D.Denot g.row.M.Denot). IsTrue g.D.Disk.tells → layout_in (g.D.Disk.view c.append.new.disk) c.append.new.self ≡ with_entry h.size (layout_in (g.D.Disk.view h.disk) h.parts)) c.self.view_is
     (λ t. subst (λ (p : Parts). layout_in (g.D.Disk.view c.append.new.disk) c.append.new.self ≡ with_entry c.self.inside.size (layout_in (g.D.Disk.view c.self.inside.disk) p)) c.prepare_append.ensures.same (shows_more (g.D.Disk.view c.self.inside.disk) (g.D.Disk.view c.append.new.disk) c.prepare_append.new.self c.append.new.self c.self.inside.size c.args.entry (subst (Fits (g.D.Disk.view c.self.inside.disk)) (sym c.prepare_append.ensures.same) (c.self.invariant.fits (ap (λ (h : HostState g.row.D.Denot g.row.M.Denot). h.stopped) c.self.view_is ∙ c.requires.runs) t)).files
-    (c.in-Ok-append.ensures.parts t c.args.entry (frame_for (tail_last c.prepare_append.new.self.tail) c.last-index.result c.deref.result.now c.args.entry (c.last-index.ensures ∙ c.self.invariant.last (ap (λ (h : HostState g.row.D.Denot g.row.M.Denot). h.stopped) c.self.view_is ∙ c.requires.runs) ∙ sym (ap (λ (p : Parts). tail_last p.tail) c.prepare_append.ensures.same))
+    ((c.in-Ok-append.ensures.told t).parts c.args.entry (frame_for (tail_last c.prepare_append.new.self.tail) c.last-index.result c.deref.result.now c.args.entry (c.last-index.ensures ∙ c.self.invariant.last (ap (λ (h : HostState g.row.D.Denot g.row.M.Denot). h.stopped) c.self.view_is ∙ c.requires.runs) ∙ sym (ap (λ (p : Parts). tail_last p.tail) c.prepare_append.ensures.same))
     (subst (λ (n : ℕ). IsInRange (n + 1) c.args.entry) (sym (c.last-index.ensures ∙ ap (λ (h : HostState g.row.D.Denot g.row.M.Denot). h.core.last) c.self.view_is)) c.requires.range) c.requires.fits (c.deref.ensures.value ∙ c.in-Ok.ensures))) c.in-Ok-append.ensures.greatest).1)
 
 pub returns-in-Ok-append-clause-held : goal.returns-in-Ok-append-clause-held
 returns-in-Ok-append-clause-held g c =
     subst (λ (h : HostState g.row.D.Denot g.row.M.Denot). IsTrue g.D.Disk.tells → IsTailHeld (g.D.Disk.view h.disk) h.parts.name h.parts.tail → IsTailHeld (g.D.Disk.view c.append.new.disk) c.append.new.self.name c.append.new.self.tail) c.self.view_is
-    (λ t held. c.in-Ok-append.ensures.held t (subst (λ (p : Parts). IsHeld (g.D.Disk.view c.self.inside.disk) p) (sym c.prepare_append.ensures.same) held))
+    (λ t held. (c.in-Ok-append.ensures.told t).held (subst (λ (p : Parts). IsHeld (g.D.Disk.view c.self.inside.disk) p) (sym c.prepare_append.ensures.same) held))
 
 pub returns-in-Ok-append-clause-confirmed : goal.returns-in-Ok-append-clause-confirmed
 returns-in-Ok-append-clause-confirmed g c =
@@ -144,13 +144,13 @@ invariant_of-self-in-Ok-append g c = record {
       let now : c.apply.new.self.last ≡ c.last-index.result + 1 = ap (λ (s : Hosted). s.last) c.apply.ensures.state in
       let before : c.last-index.result ≡ tail_last c.prepare_append.new.self.tail = c.last-index.ensures ∙ c.self.invariant.last runs ∙ sym (ap (λ (p : Parts). tail_last p.tail) c.prepare_append.ensures.same) in
       now ∙ ap (λ (k : ℕ). k + 1) before ∙ sym c.in-Ok-append.ensures.last;
-  fits = λ runs t. room_forgotten (g.D.Disk.view c.append.new.disk) c.append.new.self (c.in-Ok-append.ensures.fits t);
+  fits = λ runs t. room_forgotten (g.D.Disk.view c.append.new.disk) c.append.new.self ((c.in-Ok-append.ensures.told t).fits);
 }
 
 pub returns-in-Ok-append-clause-others : goal.returns-in-Ok-append-clause-others
 returns-in-Ok-append-clause-others g c = λ t.
     subst (λ (h : HostState g.row.D.Denot g.row.M.Denot). KeepsNames (g.D.Disk.view h.disk) (g.D.Disk.view c.append.new.disk) h.parts.name) c.self.view_is
-    (subst (λ (p : Parts). KeepsNames (g.D.Disk.view c.self.inside.disk) (g.D.Disk.view c.append.new.disk) p.name) c.prepare_append.ensures.same (c.append.ensures.others t))
+    (subst (λ (p : Parts). KeepsNames (g.D.Disk.view c.self.inside.disk) (g.D.Disk.view c.append.new.disk) p.name) c.prepare_append.ensures.same ((c.append.ensures.told t).others))
 
 pub returns-in-Ok-append-clause-name : goal.returns-in-Ok-append-clause-name
 returns-in-Ok-append-clause-name g c = c.append.ensures.name ∙ ap (λ (p : Parts). p.name) c.prepare_append.ensures.same ∙ ap (λ (h : HostState g.row.D.Denot g.row.M.Denot). h.parts.name) c.self.view_is
@@ -158,7 +158,7 @@ returns-in-Ok-append-clause-name g c = c.append.ensures.name ∙ ap (λ (p : Par
 pub returns-in-Err-append-clause-others : goal.returns-in-Err-append-clause-others
 returns-in-Err-append-clause-others g c = λ t.
     subst (λ (h : HostState g.row.D.Denot g.row.M.Denot). KeepsNames (g.D.Disk.view h.disk) (g.D.Disk.view c.append.new.disk) h.parts.name) c.self.view_is
-    (subst (λ (p : Parts). KeepsNames (g.D.Disk.view c.self.inside.disk) (g.D.Disk.view c.append.new.disk) p.name) c.prepare_append.ensures.same (c.append.ensures.others t))
+    (subst (λ (p : Parts). KeepsNames (g.D.Disk.view c.self.inside.disk) (g.D.Disk.view c.append.new.disk) p.name) c.prepare_append.ensures.same ((c.append.ensures.told t).others))
 
 pub returns-in-Err-append-clause-name : goal.returns-in-Err-append-clause-name
 returns-in-Err-append-clause-name g c = c.append.ensures.name ∙ ap (λ (p : Parts). p.name) c.prepare_append.ensures.same ∙ ap (λ (h : HostState g.row.D.Denot g.row.M.Denot). h.parts.name) c.self.view_is
