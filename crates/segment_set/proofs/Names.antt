@@ -1,5 +1,5 @@
 -- For what is kept of files of other names.
-use Rattle.std.proofs.Common.{◌≡◌, ◌≢◌, ⊎_elim, ℕ, List, Option, ap, ◌∙◌, Contains}
+use Rattle.std.proofs.Common.{◌≡◌, ◌≢◌, ⊎_elim, ℕ, List, ap, ◌∙◌, Contains}
 use Rattle.disk_model.specs.declared.file_id.FileId.{FileId}
 use Rattle.disk_model.specs.Image.{Image, Place, place}
 use Rattle.disk_model.specs.View.{View, IsSound, LeavesAt, MayHold}

@@ -1,11 +1,10 @@
 -- The offset of one entry more is noted.
-use Rattle.std.proofs.Common.{◌≡◌, ℕ, ◌+◌, ◌-◌, ◌<◌, ◌≤◌, List, [], ◌∷◌, ◌++◌, All, length, Option, Some, refl, sym, ap, subst, ◌∙◌, arith, length-append}
+use Rattle.std.proofs.Common.{◌≡◌, ℕ, ◌+◌, ◌-◌, ◌<◌, ◌≤◌, List, [], ◌∷◌, ◌++◌, All, length, Some, refl, sym, ap, subst, ◌∙◌, arith, length-append}
 use Rattle.std.proofs.lemmas.List.Elements.{All-push, All-weaker}
 use Rattle.offset_index.specs.Indexed.{MayFollow}
 use Rattle.disk_model.specs.View.{View}
 use Rattle.segment_files.specs.Contents.{AreBelow, Offset_list}
-use Rattle.segment_files.specs.Parse.{Part, Whole}
-use Rattle.segment_files.specs.Folder.{folder}
+use Rattle.segment_files.specs.Parse.{Part}
 use Rattle.segment_set.specs.declared.tail.Tail.{Tail}
 use Rattle.segment_set.specs.Fits.{ArePlaced, HasOffsets, IsTailAt}
 

@@ -1,5 +1,5 @@
 -- What a load does to a folder.
-use Rattle.std.specs.Prelude.{◌≡◌, ◌≢◌, ◌<◌, ◌≤◌, ◌⊎◌, ◌-◌, ℕ, Bool, IsTrue, List, [], ◌∷◌, ◌++◌, length, get_or, Option, Some, None, Result, IsErrOf, Contains}
+use Rattle.std.specs.Prelude.{◌≡◌, ◌≢◌, ◌<◌, ◌≤◌, ◌⊎◌, ℕ, Bool, IsTrue, List, [], ◌∷◌, ◌++◌, length, get_or, Option, Some, None, Result, IsErrOf, Contains}
 use Rattle.std.specs.List.{AllPairs}
 use Rattle.disk_model.specs.declared.file_id.FileId.{FileId}
 use Rattle.disk_model.specs.Image.{Place, Image, place}

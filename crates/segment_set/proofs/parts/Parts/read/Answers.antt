@@ -1,4 +1,4 @@
-use Rattle.std.proofs.Common.{inl, inr, ◌≡◌, ◌≤◌, ℕ, Contains, Err, sym, ap, subst, ◌∙◌, arith}
+use Rattle.std.proofs.Common.{inl, inr, ◌≡◌, ◌≤◌, ℕ, Contains, sym, subst, ◌∙◌, arith}
 use Rattle.host_types.specs.declared.entry.Entry.{Entry}
 use Rattle.segment_files.specs.declared.reading.FileFault.{FileFault}
 use Rattle.segment_files.specs.declared.reading.FileFault.TheVariants.{Damaged, Failed, NoMemory}
