@@ -2,8 +2,10 @@ pub mod Confirmed
 pub mod Files
 pub mod Growing
 pub mod Laying
+pub mod Loading
 pub mod Openings
-pub mod Replaying
+pub mod Opens
 pub mod Reopenings
+pub mod Replaying
 pub mod Staying
 pub mod Stores

@@ -1,12 +1,10 @@
 // A host is opened: its files are read, and the entries that they hold are replayed.
 ghost use Rattle.std.specs.Prelude.{◌≡◌, ◌≤◌, ◌+◌, ℕ, List, [], false, true, IsTrue, IfOk, OnOk, OnErr, IsErrOf};
-ghost use Rattle.disk_model.specs.declared.file_id.FileId.{FileId};
-ghost use Rattle.disk_model.specs.View.{LeavesAt, LeavesOnly, MayHold};
+ghost use Rattle.disk_model.specs.View.{LeavesOnly};
 ghost use Rattle.disk_model.specs.Calls.{Looks};
-ghost use Rattle.segment_files.specs.Folder.{folder, entries_of, IsChoice, IsFault, StandsForPrefix};
-ghost use Rattle.host_types.specs.declared.entry.Entry.{Entry};
-ghost use Rattle.segment_set.specs.Fits.{Fits, IsEmptyWhereNone, IsHeld, IsInOrder as FilesAreInOrder, KeepsNames, last_of, parts_in};
-ghost use Rattle.segment_set.specs.Load.{HasOpenCause, IsGreatestListed, id_from};
+ghost use Rattle.segment_files.specs.Folder.{entries_of};
+ghost use Rattle.segment_set.specs.Fits.{Fits, last_of, parts_in};
+ghost use Rattle.segment_set.specs.Load.{HasOpenCause, Loads};
 ghost use Rattle.log_model.specs.plain.Admission.{Item};
 ghost use Rattle.log_model.specs.hosted.Hosted.{hosted_nothing, hosted_told};
 ghost use Rattle.log_model.specs.cleaning.Layout.{alone};
@@ -14,9 +12,8 @@ ghost use Rattle.log_model.specs.replay.Replay.{replay_from, replayed};
 ghost use Rattle.session_table.specs.Table.{ConfirmsAcked};
 ghost use Rattle.host_core.specs.CoreState.{hosted};
 ghost use Rattle.host_recovery.specs.Standing.{StandsAt, layout_in};
-ghost use Rattle.host_recovery.specs.FileLayout.{Lies};
-ghost use Rattle.host_recovery.specs.Logs.{HasPrefix, IsInOrder, StandsFor, hosted_form};
-ghost use Rattle.host_recovery.specs.Opening.{OpensAt, disk_behind, opening_result};
+ghost use Rattle.host_recovery.specs.Logs.{StandsFor, hosted_form};
+ghost use Rattle.host_recovery.specs.Opening.{Opens, disk_behind, opened_again, opening_result};
 
 use crate::host::Host;
 use disk_model::Disk;
@@ -69,23 +66,10 @@ fn load<D: Disk, M: Machine>(
 ) -> Result<Parts, OpenError>
     requires fresh { hosted M.cells core.old ≡ hosted_nothing }
     requires unconfirmed { ConfirmsAcked core.old.sessions }
-    ensures name { IfOk result (λ parts. parts.name ≡ name.now) }
-    ensures fits { IfOk result (λ parts. IsTrue D.tells → Fits (D.view disk.new) parts) }
+    ensures loads { Loads D.tells (D.view disk.old) (D.view disk.new) (D.faults disk.old) (D.faults disk.new) name.now result }
     ensures state { IfOk result (λ parts. IsTrue D.tells → hosted M.cells core.new ≡ replayed (hosted_told M.decides) 0 (entries_of (parts_in (D.view disk.new).reading parts))) }
     ensures last { IfOk result (λ parts. core.new.last ≡ last_of parts) }
     ensures confirmed { OnOk result (ConfirmsAcked core.new.sessions) }
-    ensures choice { IfOk result (λ parts. IsTrue D.tells → IsChoice (folder name.now (D.view disk.old).reading) (parts_in (D.view disk.new).reading parts)) }
-    ensures held { IfOk result (λ parts. IsTrue D.tells → IsEmptyWhereNone (D.view disk.old) name.now → IsHeld (D.view disk.new) parts) }
-    ensures greatest { IfOk result (λ parts. IsTrue D.tells → IsGreatestListed (D.view disk.old) name.now parts.greatest) }
-    ensures damaged { (base generation at : ℕ) → IsErrOf result (OpenError.Damaged base generation at)
-        → IsTrue D.tells → IsFault (folder name.now (D.view disk.old).reading) (id_from base generation) at × ((D.view disk.new).reading ≡ (D.view disk.old).reading) }
-    ensures unharmed { IsTrue D.tells → (id : FileId) (at : ℕ) → IsFault (folder name.now (D.view disk.old).reading) id at
-        → ((D.view disk.new).reading ≡ (D.view disk.old).reading) × LeavesAt (D.view disk.old) (D.view disk.new) (MayHold (D.view disk.old)) }
-    ensures any_moment { IsTrue D.tells → (log : List Entry) (least : ℕ) → FilesAreInOrder (D.view disk.old) name.now log least
-        → LeavesOnly (D.view disk.old) (D.view disk.new) (StandsForPrefix name.now log least) }
-    ensures empty { IsTrue D.tells → IsEmptyWhereNone (D.view disk.old) name.now → IsEmptyWhereNone (D.view disk.new) name.now }
-    ensures others { IsTrue D.tells → KeepsNames (D.view disk.old) (D.view disk.new) name.now }
-    ensures cause { HasOpenCause (D.faults disk.old) (D.faults disk.new) result }
 {
     let parts = match Parts::load(alloc, disk, name) {
         Ok(parts) => parts,
@@ -116,25 +100,7 @@ impl<D: Disk, M: Machine> Host<D, M> {
         requires none { M.cells machine ≡ [] }
         requires least { 2 ≤ segment }
         requires most { segment ≤ 65536 }
-        ensures name { IfOk result (λ h. (h.parts.name ≡ name.now) × (h.size ≡ segment) × (h.stopped ≡ false)) }
-        ensures stands { IsTrue D.tells → (items : List Item) (least : ℕ) → IsInOrder (hosted_form M.decides) (D.view disk) name.now items least → IfOk result (OpensAt M.decides D.view M.cells (D.view disk) items least) }
-        ensures any_moment { IsTrue D.tells → (items : List Item) (least : ℕ) → IsInOrder (hosted_form M.decides) (D.view disk) name.now items least
-            → LeavesOnly (D.view disk) (D.view (disk_behind result)) (HasPrefix (hosted_form M.decides) name.now items least) }
-        ensures confirmed { IfOk result (λ h. ConfirmsAcked h.core.sessions) }
-        ensures faultless { OnOk result (IsTrue D.tells → (id : FileId) (at : ℕ) → IsFault (folder name.now (D.view disk).reading) id at → ⊥) }
-        ensures lies { IfOk result (λ h. IsTrue D.tells → Lies name.now (D.view disk).reading (layout_in (D.view h.disk) h.parts)) }
-
-        // A damaged file is named by its cause and with its place, and the files are as they were.
-        ensures damaged { (base generation at : ℕ) → IsErrOf (opening_result result) (OpenError.Damaged base generation at)
-            → IsTrue D.tells → IsFault (folder name.now (D.view disk).reading) (id_from base generation) at × ((D.view (disk_behind result)).reading ≡ (D.view disk).reading) }
-
-        // Whatever it answers of files that aren't right, they are as they were.
-        ensures unharmed { IsTrue D.tells → (id : FileId) (at : ℕ) → IsFault (folder name.now (D.view disk).reading) id at
-            → ((D.view (disk_behind result)).reading ≡ (D.view disk).reading) × LeavesAt (D.view disk) (D.view (disk_behind result)) (MayHold (D.view disk)) }
-
-        ensures empty { IsTrue D.tells → IsEmptyWhereNone (D.view disk) name.now → IsEmptyWhereNone (D.view (disk_behind result)) name.now }
-        ensures others { IsTrue D.tells → KeepsNames (D.view disk) (D.view (disk_behind result)) name.now }
-        ensures cause { HasOpenCause (D.faults disk) (D.faults (disk_behind result)) (opening_result result) }
+        ensures { Opens M.decides D.tells D.view D.faults M.cells disk (disk_behind result) name.now segment (opening_result result) }
     {
         let mut disk = disk;
         let mut core = Core::new(alloc, machine);
@@ -162,16 +128,10 @@ impl<D: Disk, M: Machine> Host<D, M> {
     /// does whatever a crash leaves on the way.
     pub fn reopen(&mut self, alloc: Global, machine: M) -> Result<(), OpenError>
         requires { M.cells machine ≡ [] }
-        ensures runs { OnOk result (self.new.stopped ≡ false) }
+        ensures opens { Opens M.decides D.tells D.view D.faults M.cells self.old.disk self.new.disk self.old.parts.name self.old.size (opened_again self.new result) }
         ensures stops { OnErr result (self.new.stopped ≡ true) }
-        ensures confirmed { OnOk result (ConfirmsAcked self.new.core.sessions) }
-
-        // On a folder that is in order.
-        ensures opens { IsTrue D.tells → (items : List Item) (least : ℕ) → IsInOrder (hosted_form M.decides) (D.view self.old.disk) self.old.parts.name items least
-            → OnOk result (OpensAt M.decides D.view M.cells (D.view self.old.disk) items least self.new) }
-        ensures leaves { IsTrue D.tells → (items : List Item) (least : ℕ) → IsInOrder (hosted_form M.decides) (D.view self.old.disk) self.old.parts.name items least
-            → LeavesOnly (D.view self.old.disk) (D.view self.new.disk) (HasPrefix (hosted_form M.decides) self.old.parts.name items least) }
-        ensures lies { OnOk result (IsTrue D.tells → Lies self.old.parts.name (D.view self.old.disk).reading (layout_in (D.view self.new.disk) self.new.parts)) }
+        ensures name { self.new.parts.name ≡ self.old.parts.name }
+        ensures size { self.new.size ≡ self.old.size }
 
         // Where it ran.
         ensures stands { IsTrue D.tells → (items : List Item) → StandsAt M.decides D.view M.cells self.old items → OnOk result (StandsAt M.decides D.view M.cells self.new items) }
@@ -179,20 +139,7 @@ impl<D: Disk, M: Machine> Host<D, M> {
             → OnOk result (layout_in (D.view self.new.disk) self.new.parts ≡ alone (layout_in (D.view self.old.disk) self.old.parts)) }
         ensures any_moment { IsTrue D.tells → (items : List Item) → StandsAt M.decides D.view M.cells self.old items
             → LeavesOnly (D.view self.old.disk) (D.view self.new.disk) (λ image. StandsFor (hosted_form M.decides) self.old.parts.name image items) }
-
-        // A damaged file is named by its cause and with its place, and the files are as they were. Where it ran there is none.
-        ensures faultless { OnOk result (IsTrue D.tells → (id : FileId) (at : ℕ) → IsFault (folder self.old.parts.name (D.view self.old.disk).reading) id at → ⊥) }
-        ensures damaged { (base generation at : ℕ) → IsErrOf result (OpenError.Damaged base generation at)
-            → IsTrue D.tells → IsFault (folder self.old.parts.name (D.view self.old.disk).reading) (id_from base generation) at × ((D.view self.new.disk).reading ≡ (D.view self.old.disk).reading) }
         ensures undamaged { (base generation at : ℕ) → IsErrOf result (OpenError.Damaged base generation at) → IsTrue D.tells → self.old.stopped ≡ false → ⊥ }
-        ensures unharmed { IsTrue D.tells → (id : FileId) (at : ℕ) → IsFault (folder self.old.parts.name (D.view self.old.disk).reading) id at
-            → ((D.view self.new.disk).reading ≡ (D.view self.old.disk).reading) × LeavesAt (D.view self.old.disk) (D.view self.new.disk) (MayHold (D.view self.old.disk)) }
-
-        ensures empty { IsTrue D.tells → IsEmptyWhereNone (D.view self.old.disk) self.old.parts.name → IsEmptyWhereNone (D.view self.new.disk) self.old.parts.name }
-        ensures others { IsTrue D.tells → KeepsNames (D.view self.old.disk) (D.view self.new.disk) self.old.parts.name }
-        ensures name { self.new.parts.name ≡ self.old.parts.name }
-        ensures size { self.new.size ≡ self.old.size }
-        ensures cause { HasOpenCause (D.faults self.old.disk) (D.faults self.new.disk) result }
     {
         let name = self.parts.name;
         self.stopped = true;

@@ -8,6 +8,7 @@ pub mod Gaining
 pub mod Growing
 pub mod Images
 pub mod Loaded
+pub mod Leaving
 pub mod Loading
 pub mod Names
 pub mod NewTail

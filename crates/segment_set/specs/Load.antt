@@ -1,18 +1,21 @@
 -- What a load does to a folder.
-use Rattle.std.specs.Prelude.{◌≡◌, ◌≢◌, ◌<◌, ◌≤◌, ◌⊎◌, ℕ, Bool, IsTrue, List, [], ◌∷◌, ◌++◌, length, get_or, Option, Some, None, Result, IsErrOf, Contains}
+use Rattle.std.specs.Prelude.{◌≡◌, ◌≢◌, ◌<◌, ◌≤◌, ◌⊎◌, ℕ, Bool, IsTrue, List, [], ◌∷◌, ◌++◌, length, get_or, Option, Some, None, Result, IfOk, IsErrOf, Contains}
 use Rattle.std.specs.List.{AllPairs}
+use Rattle.host_types.specs.declared.entry.Entry.{Entry}
 use Rattle.disk_model.specs.declared.file_id.FileId.{FileId}
 use Rattle.disk_model.specs.Image.{Place, Image, place}
-use Rattle.disk_model.specs.View.{View, MayHold, MayLeave, IsListed, LeavesAt}
+use Rattle.disk_model.specs.View.{View, MayHold, MayLeave, IsListed, LeavesAt, LeavesOnly}
 use Rattle.segment_files.specs.Contents.{Offset_list, Shows, StandAt}
 use Rattle.segment_files.specs.Parse.{Part, Closed, Whole, Damaged, base_place}
-use Rattle.segment_files.specs.Folder.{Folder, folder}
+use Rattle.segment_files.specs.Folder.{Folder, folder, IsChoice, IsFault, StandsForPrefix}
 use Rattle.segment_set.specs.declared.opening.OpenError.{OpenError}
 use Rattle.segment_set.specs.declared.opening.OpenError.TheVariants.{Disk as Is_disk, Damaged as Is_damaged, NoMemory as No_memory}
 use Rattle.segment_files.specs.declared.reading.FileFault.{FileFault}
 use Rattle.segment_files.specs.declared.reading.FileFault.TheVariants as faults
 use Rattle.segment_set.specs.declared.opened.Opened.{Opened}
+use Rattle.segment_set.specs.declared.parts.Parts.{Parts}
 use Rattle.segment_set.specs.declared.tail.Tail.{Tail}
+use Rattle.segment_set.specs.Fits.{Fits, IsEmptyWhereNone, IsHeld, IsInOrder, KeepsNames, parts_in}
 
 -- these files are listed, each once
 pub record AreListed (v : View) (name : List ℕ) (ids : List FileId) : Type 0 where
@@ -109,3 +112,29 @@ IsTailFound (Some one) (Some tail) = (tail.id ≡ one.id) × (tail.last ≡ one.
 pub record IsGreatestListed (v : View) (name : List ℕ) (greatest : ℕ) : Type 0 where
   pub above : (id : FileId) → IsListed v (place name id) → id.generation ≤ greatest
   pub taken : (greatest ≡ 0) ⊎ ((id : FileId) × IsListed v (place name id) × (id.generation ≡ greatest))
+
+-- ---- a load as a whole
+
+-- What was read on a disk that tells is what is held, with no closed file beside it.
+pub record IsLoaded (v w : View) (name : List ℕ) (parts : Parts) : Type 0 where
+  pub fits : Fits w parts
+  pub choice : IsChoice (folder name v.reading) (parts_in w.reading parts)
+  pub held : IsEmptyWhereNone v name → IsHeld w parts
+  pub greatest : IsGreatestListed v name parts.greatest
+
+-- What an opening leaves of a folder on a disk that tells, whatever it answers.
+pub record LeavesFolder (v w : View) (name : List ℕ) {T : Type 0} (result : Result T OpenError) : Type 0 where
+  -- a damaged file is named by its cause and with its place, and the files are as they were
+  pub damaged : (base generation at : ℕ) → IsErrOf result (Is_damaged base generation at) → IsFault (folder name v.reading) (id_from base generation) at × (w.reading ≡ v.reading)
+  -- whatever it answers of files that aren't right, they are as they were
+  pub unharmed : (id : FileId) (at : ℕ) → IsFault (folder name v.reading) id at → (w.reading ≡ v.reading) × LeavesAt v w (MayHold v)
+  pub empty : IsEmptyWhereNone v name → IsEmptyWhereNone w name
+  pub others : KeepsNames v w name
+
+-- What a load answers and leaves, on any disk, which had so many faults before and has so many now.
+pub record Loads (tells : Bool) (v w : View) (before now : ℕ) (name : List ℕ) (result : Result Parts OpenError) : Type 0 where
+  pub name_is : IfOk result (λ parts. parts.name ≡ name)
+  pub found : IsTrue tells → IfOk result (IsLoaded v w name)
+  pub any_moment : IsTrue tells → (log : List Entry) (least : ℕ) → IsInOrder v name log least → LeavesOnly v w (StandsForPrefix name log least)
+  pub leaves : IsTrue tells → LeavesFolder v w name result
+  pub cause : HasOpenCause before now result

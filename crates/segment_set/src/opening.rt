@@ -1,16 +1,14 @@
 // A log is opened: all that is read is settled, and what is no part is removed.
 ghost use Rattle.std.specs.Prelude.{◌≡◌, ◌≢◌, ◌≤◌, ◌⊎◌, ℕ, List, [], length, Some, None, IsTrue, IfOk, OnOk, IsErrOf, All, Contains};
-ghost use Rattle.host_types.specs.declared.entry.Entry.{Entry};
 ghost use Rattle.disk_model.specs.declared.file_id.FileId.{FileId};
 ghost use Rattle.disk_model.specs.Image.{IsFileId, place};
-ghost use Rattle.disk_model.specs.View.{LeavesAt, LeavesOnly, MayHold, IsListed};
+ghost use Rattle.disk_model.specs.View.{LeavesAt, MayHold, IsListed};
 ghost use Rattle.disk_model.specs.Calls.{Lists, Stays};
 ghost use Rattle.segment_files.specs.Parse.{base_place};
-ghost use Rattle.segment_files.specs.Folder.{folder, IsChoice, IsFault, IsFirstDamaged, StandsForPrefix};
-ghost use Rattle.segment_set.specs.Fits.{Fits, IsEmptyWhereNone, IsHeld, IsInOrder, KeepsNames, parts_in};
+ghost use Rattle.segment_files.specs.Folder.{folder, IsFirstDamaged};
 ghost use Rattle.segment_files.specs.Contents.{AreBelow};
 ghost use Rattle.segment_set.specs.Tails.{tail_gate, tail_last};
-ghost use Rattle.segment_set.specs.Load.{Adds, AreOffsetsOf, HasOpenCause, IsGreatestListed, IsLooked, IsOf, IsSeenDamaged, IsTailFound, OpenedIs, Surveyed, file_error, id_from, opened_id};
+ghost use Rattle.segment_set.specs.Load.{Adds, AreOffsetsOf, HasOpenCause, IsLooked, IsOf, IsSeenDamaged, IsTailFound, Loads, OpenedIs, Surveyed, file_error, id_from, opened_id};
 
 use crate::opened::Opened;
 use crate::parts::Parts;
@@ -206,26 +204,7 @@ impl Parts {
     /// read after the syncs is what every crash leaves from then on. Where it answers `Damaged` no file has been removed.
     /// Of each entry it keeps where it stands, in two words.
     pub fn load<D: Disk>(alloc: Global, disk: &mut D, name: &LogName) -> Result<Parts, OpenError>
-        ensures name { IfOk result (λ parts. parts.name ≡ name.now) }
-        // What was read is what is held, with no closed file beside it.
-        ensures fits { IfOk result (λ parts. IsTrue D.tells → Fits (D.view disk.new) parts) }
-        ensures choice { IfOk result (λ parts. IsTrue D.tells → IsChoice (folder name.now (D.view disk.old).reading) (parts_in (D.view disk.new).reading parts)) }
-        ensures held { IfOk result (λ parts. IsTrue D.tells → IsEmptyWhereNone (D.view disk.old) name.now → IsHeld (D.view disk.new) parts) }
-        ensures greatest { IfOk result (λ parts. IsTrue D.tells → IsGreatestListed (D.view disk.old) name.now parts.greatest) }
-
-        // A damaged file is named by its cause and with its place, and the files are as they were.
-        ensures damaged { (base generation at : ℕ) → IsErrOf result (OpenError.Damaged base generation at)
-            → IsTrue D.tells → IsFault (folder name.now (D.view disk.old).reading) (id_from base generation) at × ((D.view disk.new).reading ≡ (D.view disk.old).reading) }
-
-        // Whatever it answers of files that aren't right, they are as they were.
-        ensures unharmed { IsTrue D.tells → (id : FileId) (at : ℕ) → IsFault (folder name.now (D.view disk.old).reading) id at
-            → ((D.view disk.new).reading ≡ (D.view disk.old).reading) × LeavesAt (D.view disk.old) (D.view disk.new) (MayHold (D.view disk.old)) }
-
-        ensures any_moment { IsTrue D.tells → (log : List Entry) (least : ℕ) → IsInOrder (D.view disk.old) name.now log least
-            → LeavesOnly (D.view disk.old) (D.view disk.new) (StandsForPrefix name.now log least) }
-        ensures empty { IsTrue D.tells → IsEmptyWhereNone (D.view disk.old) name.now → IsEmptyWhereNone (D.view disk.new) name.now }
-        ensures others { IsTrue D.tells → KeepsNames (D.view disk.old) (D.view disk.new) name.now }
-        ensures cause { HasOpenCause (D.faults disk.old) (D.faults disk.new) result }
+        ensures { Loads D.tells (D.view disk.old) (D.view disk.new) (D.faults disk.old) (D.faults disk.new) name.now result }
     {
         let ids = match settle_all(disk, name) {
             Ok(ids) => ids,
