@@ -5,7 +5,7 @@ use Rattle.host_types.specs.declared.entry.Entry.{Entry}
 use Rattle.host_types.specs.Decision.{MachineDecision, MachineIsLawful, MachineHasOneOwner}
 use Rattle.disk_model.specs.Image.{Image}
 use Rattle.disk_model.specs.View.{View, MayHold, MayLeave, IsSound}
-use Rattle.segment_files.specs.Parse.{Numbered, Part}
+use Rattle.segment_files.specs.Parse.{Part}
 use Rattle.segment_files.specs.Folder.{Folder, folder, entries_of, AreOf, IsChoice, Stands, StandsForPrefix}
 use Rattle.segment_set.specs.Fits.{FilesFit, IsTailHeld, bare, log_of, tail_parts}
 use Rattle.segment_set.proofs.Images.{nothing, only_one, here}
@@ -13,7 +13,7 @@ use Rattle.log_model.specs.plain.Admission.{Item}
 use Rattle.log_model.specs.plain.Fitting.{ItemsFit}
 use Rattle.log_model.specs.hosted.Hosted.{Hosted, hosted_nothing, hosted_entry, hosted_step, hosted_told, hosted_folded, hosted_stored, hosted_stored_from, hosted_quiet, is_hosted_admitted, is_hosted_log_from}
 use Rattle.log_model.specs.cleaning.Cleaning.{numbered}
-use Rattle.log_model.specs.replay.Replay.{Telling, replay_entry, replay_from, replayed}
+use Rattle.log_model.specs.replay.Replay.{replayed}
 use Rattle.log_model.proofs.cleaning.Appends.{fresh}
 use Rattle.log_model.proofs.replay.WholeFold.{gives_hosted_fold}
 use Rattle.host_types.specs.Cells.{Cells}

@@ -1,10 +1,8 @@
 -- The entries of files are replayed one after the other, each read from its place.
-use Rattle.std.proofs.Common.{◌≡◌, ℕ, ◌+◌, ◌-◌, ◌<◌, ◌≤◌, List, [], ◌∷◌, ◌++◌, length, take, get_or, Some, Contains, refl, sym, ap, subst, ◌∙◌, arith}
+use Rattle.std.proofs.Common.{◌≡◌, ℕ, ◌+◌, ◌-◌, ◌<◌, ◌≤◌, [], ◌∷◌, ◌++◌, length, take, get_or, Some, refl, sym, ap, ◌∙◌, arith}
 use Rattle.std.proofs.lemmas.List.{take_more, take_all}
 use Rattle.host_types.specs.declared.entry.Entry.{Entry}
-use Rattle.disk_model.specs.Image.{Image}
-use Rattle.disk_model.specs.View.{View, IsSound, LeavesAt, MayHold}
-use Rattle.disk_model.specs.Calls.{Looks}
+use Rattle.disk_model.specs.View.{View}
 use Rattle.segment_files.specs.Parse.{Numbered}
 use Rattle.segment_files.specs.Folder.{entries_of}
 use Rattle.segment_set.specs.declared.parts.Parts.{Parts}

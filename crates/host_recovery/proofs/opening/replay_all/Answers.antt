@@ -1,4 +1,4 @@
-use Rattle.std.proofs.Common.{◌≡◌, ◌+◌, ℕ, Option, Contains, sym, ap, subst, refl, arith}
+use Rattle.std.proofs.Common.{◌≡◌, ◌+◌, Contains, ap, subst, refl, arith}
 use Rattle.disk_model.specs.Image.{Image}
 use Rattle.segment_files.specs.Folder.{entries_of}
 use Rattle.segment_set.specs.Fits.{IsEntryAt, parts_in}

@@ -1,4 +1,4 @@
-use Rattle.std.proofs.Common.{ℕ, ◌≡◌, ◌+◌, ◌<◌, ◌∷◌, [], ◌++◌, List, None, IsTrue, ap, sym, subst, ◌∙◌, arith}
+use Rattle.std.proofs.Common.{ℕ, ◌≡◌, ◌+◌, ◌<◌, ◌∷◌, [], ◌++◌, None, IsTrue, ap, sym, subst, ◌∙◌, arith}
 use Rattle.host_types.specs.Limits.{index_limit}
 use Rattle.host_types.specs.Ranges.{IsInRange}
 use Rattle.disk_model.specs.View.{LeavesOnly}
