@@ -8,11 +8,9 @@ use Rattle.log_model.specs.plain.Admission.{Expired, Expiry, Expires, Nobody, No
 use Rattle.log_model.specs.plain.Step.{folded}
 use Rattle.host_recovery.specs.HostState.{HostState}
 use Rattle.resource_catalog.specs.Parts.{Parts}
-use Rattle.script_text.specs.declared.printed.Printed.TheVariants as prints
-use Rattle.script_text.specs.Printing.{printed_line}
 use Rattle.copycat_tool.specs.declared.ending.Ending.{Ending}
-use Rattle.copycat_tool.specs.HostCalls.{IsTold, change_of}
-use Rattle.copycat_tool.specs.Report.{Run, Act, Report, Nothing, Stores, after, all_expired, answer_after, changed, expired, expired_answer, expiry, in_front, offer_answer, offered, with_expired}
+use Rattle.copycat_tool.specs.HostCalls.{change_of}
+use Rattle.copycat_tool.specs.Report.{Run, Act, Nothing, Stores, after, all_expired, answer_after, changed, expired, expired_answer, expiry, in_front, offer_answer, offered, with_expired}
 use Rattle.copycat_tool.specs.Runs.{Files}
 use Rattle.copycat_tool.specs.RunStanding.{IsAt, IsCut}
 use Rattle.copycat_tool.specs.Turning.{Answers, HasAnswered, HasEnded, HasExpired, HasRun, stopped_by}

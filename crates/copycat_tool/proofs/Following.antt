@@ -1,10 +1,9 @@
 -- How a log goes through acts, from moment to moment.
-use Rattle.std.proofs.Common.{◌≡◌, inl, inr, ⊎_elim, ℕ, ◌≤◌, List, [], ◌∷◌, ◌++◌, refl, sym, subst, arith}
-use Rattle.disk_model.specs.Image.{Image}
+use Rattle.std.proofs.Common.{inl, inr, ⊎_elim, ℕ, ◌≤◌, List, [], ◌∷◌, ◌++◌, refl, sym, subst, arith}
 use Rattle.disk_model.specs.View.{View, GoesOn, LeavesOnly}
 use Rattle.disk_model.proofs.Moments.{went_on}
 use Rattle.copycat_tool.specs.Report.{Run, Act, after, changed}
-use Rattle.copycat_tool.specs.Runs.{Did, Files, Follows, IsDone, StandsEither, WereOffered}
+use Rattle.copycat_tool.specs.Runs.{Did, Files, Follows, StandsEither, WereOffered}
 use Rattle.copycat_tool.proofs.Offering.{offered_more}
 
 module _ (files : Files) where

@@ -1,5 +1,5 @@
 -- What every part of a run keeps, part after part.
-use Rattle.std.proofs.Common.{◌≡◌, ◌∙◌, ℕ, ◌≤◌, List, Bool, Result, Ok, refl, arith}
+use Rattle.std.proofs.Common.{◌≡◌, ◌∙◌, ℕ, ◌≤◌, List, Bool, Result, refl, arith}
 use Rattle.disk_model.specs.View.{View}
 use Rattle.script_io.specs.Streams.{Rose}
 use Rattle.segment_set.specs.Fits.{KeepsNames}

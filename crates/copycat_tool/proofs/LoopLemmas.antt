@@ -7,14 +7,14 @@ use Rattle.disk_model.specs.View.{View}
 use Rattle.host_recovery.specs.HostState.{HostState}
 use Rattle.resource_catalog.specs.Parts.{Parts}
 use Rattle.copycat_tool.specs.Script.{command, line_limit, script_limit}
-use Rattle.copycat_tool.specs.Report.{Run, Act, Report, Cut, Whole, Broken, Above, after, report, one, ends, in_front, last_piece, cut_of, printed}
+use Rattle.copycat_tool.specs.Report.{Run, Report, Cut, Whole, Broken, Above, after, report, one, ends, in_front, last_piece, cut_of, printed}
 use Rattle.copycat_tool.specs.declared.ending.Ending.{Ending}
 use Rattle.copycat_tool.specs.declared.ending.Ending.TheVariants.{Done, Fault, TooLong, ReadFault, WriteFault, DiskFault, NoMemory, Damaged}
 use Rattle.copycat_tool.specs.Pieces.{Finds, TakesMore, EndsAt, IsShort, IsTooLong}
 use Rattle.copycat_tool.specs.declared.reader.Piece.{Piece}
 use Rattle.copycat_tool.specs.declared.reader.ReadError.{ReadError}
 use Rattle.copycat_tool.specs.Runs.{Files, Ended, IsComplete, Wrote, came, reported}
-use Rattle.copycat_tool.specs.RunStanding.{IsAt, IsAtRest}
+use Rattle.copycat_tool.specs.RunStanding.{IsAt}
 use Rattle.copycat_tool.specs.ClientTakes.{HasClients}
 use Rattle.copycat_tool.specs.Turning.{HasEndedIn, HasRun, HasTurned}
 use Rattle.copycat_tool.specs.declared.clients.Clients.{Clients}

@@ -1,5 +1,5 @@
 -- What clients were offered, and took of it, act after act.
-use Rattle.std.proofs.Common.{◌≡◌, ◌⊎◌, inl, inr, ℕ, ◌+◌, cond, nat_le, ◌==◌, ◌||◌, Bool, true, false, List, [], ◌∷◌, ◌++◌, length, take, Option, Some, None, IsTrue, refl, ap, sym, ◌∙◌, subst, append_assoc, eqb-true}
+use Rattle.std.proofs.Common.{◌≡◌, inl, inr, ℕ, cond, ◌==◌, ◌||◌, Bool, true, false, List, [], ◌∷◌, ◌++◌, Option, Some, None, IsTrue, refl, ap, sym, ◌∙◌, subst, append_assoc, eqb-true}
 use Rattle.std.proofs.lemmas.List.{append-nil}
 use Rattle.std.specs.Cmp.{nat_eq_equiv}
 use Rattle.std.specs.List.{find, list_any}
@@ -10,7 +10,7 @@ use Rattle.log_model.specs.plain.Step.{folded}
 use Rattle.log_model.specs.plain.Stored.{is_log}
 use Rattle.log_model.specs.serving.Positions.{Position, acked_positions, event_at}
 use Rattle.log_model.specs.serving.Batches.{Batch, Take, Taken, Repeated, Missed, batches, last_after, take_batch}
-use Rattle.log_model.specs.serving.Serving.{AreOf, IsOneOf, is_point, last_taken, taken, took, after_event}
+use Rattle.log_model.specs.serving.Serving.{AreOf, IsOneOf, is_point, last_taken, taken, took}
 use Rattle.log_model.proofs.serving.Chains.{grow}
 use Rattle.log_model.proofs.serving.Clients.{client_takes_run}
 use Rattle.log_model.proofs.serving.Points.{acks_are_points}

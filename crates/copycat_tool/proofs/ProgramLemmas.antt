@@ -17,7 +17,7 @@ use Rattle.copycat_tool.specs.Report.{Run}
 use Rattle.host_recovery.specs.FileLayout.{Lies}
 use Rattle.host_recovery.specs.Logs.{HasPrefix, IsInOrder, IsLog, StandsFor, hosted_form, plain_form}
 use Rattle.copycat_tool.specs.declared.ending.Ending.{Ending}
-use Rattle.copycat_tool.specs.declared.ending.Ending.TheVariants.{Damaged, DiskFault, NoMemory, ReadFault, WriteFault}
+use Rattle.copycat_tool.specs.declared.ending.Ending.TheVariants.{Damaged, DiskFault, ReadFault, WriteFault}
 use Rattle.copycat_tool.specs.Closing.{EndsRun}
 use Rattle.copycat_tool.specs.Endings.{ending_of}
 use Rattle.copycat_tool.specs.Runs.{BeginsAcked, BeginsAtPoints, Files, RanSo}

@@ -1,16 +1,16 @@
 -- The last line of a run, and its status.
-use Rattle.std.proofs.Common.{◌≡◌, ◌⊎◌, inl, inr, ⊎_elim, ℕ, ◌<◌, true, List, [], ◌++◌, length, take, Option, refl, sym, ap, ◌∙◌, subst, arith}
+use Rattle.std.proofs.Common.{◌≡◌, ◌⊎◌, inl, inr, ⊎_elim, ℕ, true, List, [], ◌++◌, take, Option, refl, sym, ap, ◌∙◌, subst, arith}
 use Rattle.disk_model.specs.View.{View}
 use Rattle.script_io.specs.Streams.{Rose}
-use Rattle.copycat_tool.specs.Report.{Run, Report, last_line, printed_lines, status_of}
+use Rattle.copycat_tool.specs.Report.{Run, Report, status_of}
 use Rattle.copycat_tool.specs.declared.ending.Ending.{Ending}
 use Rattle.copycat_tool.specs.declared.ending.Ending.TheVariants.{Done, Fault, TooLong, ReadFault, WriteFault, DiskFault, NoMemory, Damaged}
-use Rattle.copycat_tool.specs.Runs.{Files, EndedSo, EndsAs, Ended, Closes, ClosesAs, Wrote, all_reported}
+use Rattle.copycat_tool.specs.Runs.{Files, EndsAs, Ended, Closes, ClosesAs, Wrote, all_reported}
 use Rattle.copycat_tool.specs.Programs.{IsStatus}
 use Rattle.copycat_tool.specs.Closing.{EndsRun, HasCauses, HasClosed, is_numbered}
 use Rattle.copycat_tool.specs.Turning.{HasRun}
 use Rattle.copycat_tool.proofs.Offering.{took_runs}
-use Rattle.copycat_tool.proofs.Writing.{wrote_as, wrote_more, wrote_none}
+use Rattle.copycat_tool.proofs.Writing.{wrote_more}
 
 -- ---- no memory for a last line with a number in it
 

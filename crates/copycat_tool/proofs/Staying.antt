@@ -1,12 +1,12 @@
 -- Only a line that takes events moves a client.
-use Rattle.std.proofs.Common.{◌≡◌, ℕ, zero, suc, Bool, true, false, List, [], ◌∷◌, ◌++◌, refl, ap, sym, ◌∙◌}
+use Rattle.std.proofs.Common.{◌≡◌, ℕ, zero, suc, Bool, true, false, List, [], ◌∷◌, refl, ap, sym, ◌∙◌}
 use Rattle.host_types.specs.declared.entry.Offer.{Offer}
 use Rattle.log_model.specs.plain.Admission.{Admission, Admitted, Repeats, Refused, Expiry, Expires, Nobody, Not_now}
 use Rattle.log_model.specs.serving.Positions.{Position, event_at}
 use Rattle.copycat_tool.specs.declared.clients.Clients.{Clients}
 use Rattle.copycat_tool.specs.declared.lines.Command.{Command}
 use Rattle.copycat_tool.specs.declared.lines.Command.TheVariants as commands
-use Rattle.copycat_tool.specs.Report.{Run, Act, after, all_expired, admission, answer_after, answer_by, answers_to, changed, expired, expired_answer, expiry, offer_answer, offered, with_expired}
+use Rattle.copycat_tool.specs.Report.{Run, after, all_expired, admission, answer_after, answer_by, answers_to, changed, expired, expired_answer, expiry, offer_answer, with_expired}
 use Rattle.copycat_tool.specs.ClientTakes.{HasClients}
 use Rattle.copycat_tool.proofs.Prefixes.{after-append}
 

@@ -1,5 +1,5 @@
 -- What a client was served is answered.
-use Rattle.std.proofs.Common.{◌≡◌, inl, inr, ℕ, ◌<◌, cond, ◌==◌, Bool, true, false, List, [], ◌∷◌, ◌++◌, length, take, Option, Some, None, Result, Ok, Err, refl, ap, sym, ◌∙◌, subst}
+use Rattle.std.proofs.Common.{◌≡◌, inl, inr, ℕ, cond, ◌==◌, Bool, true, false, List, [], ◌∷◌, ◌++◌, take, Option, Some, None, Result, Ok, Err, refl, ap, sym, ◌∙◌, subst}
 use Rattle.std.proofs.lemmas.List.{append-nil}
 use Rattle.std.specs.List.{find}
 use Rattle.std.specs.Option.{option_map_or}
@@ -12,16 +12,14 @@ use Rattle.script_text.specs.declared.printed.Printed.TheVariants as prints
 use Rattle.script_text.specs.Printing.{printed_line, printed_text}
 use Rattle.log_model.specs.plain.Plain.{Session, session_of}
 use Rattle.log_model.specs.plain.Step.{folded}
-use Rattle.log_model.specs.serving.Batches.{Batch, Served, Taken, Nothing_new, Takes, Misses, batches, serve, take_batch}
-use Rattle.log_model.specs.serving.Serving.{IsOneOf}
-use Rattle.session_table.specs.Asked.{batch_at}
+use Rattle.log_model.specs.serving.Batches.{Batch, Served, Taken, Nothing_new, Takes, Misses, serve, take_batch}
 use Rattle.host_recovery.specs.HostState.{HostState}
 use Rattle.resource_catalog.specs.Parts.{Parts}
 use Rattle.copycat_tool.specs.declared.clients.Clients.{Clients}
 use Rattle.copycat_tool.specs.declared.ending.Ending.{Ending}
 use Rattle.copycat_tool.specs.declared.ending.Ending.TheVariants.{Done, Fault, TooLong, ReadFault, WriteFault, DiskFault, NoMemory, Damaged}
 use Rattle.copycat_tool.specs.declared.taking.Next.TheVariants as nexts
-use Rattle.copycat_tool.specs.Report.{Run, Act, Confirms, Nothing, after, changed, client_at, offers, printed_lines, says, take_answer, take_from, turn_answer}
+use Rattle.copycat_tool.specs.Report.{Run, Act, Confirms, Nothing, after, changed, client_at, offers, printed_lines, take_answer, take_from, turn_answer}
 use Rattle.copycat_tool.specs.Runs.{Did, Files, StandsEither, WereOffered}
 use Rattle.copycat_tool.specs.RunStanding.{IsAt, IsAtRest}
 use Rattle.copycat_tool.specs.ClientTakes.{ArePut, HasClients, HasNext, IsConfirmed, IsStill, Keeps, client_of, event_lines}

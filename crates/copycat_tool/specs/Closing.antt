@@ -1,8 +1,7 @@
 -- The last line of a run, and its status.
-use Rattle.std.specs.Prelude.{◌≡◌, ◌≤◌, ◌<◌, ◌⊎◌, ℕ, Bool, true, false, List, Option, IsTrue}
+use Rattle.std.specs.Prelude.{◌≡◌, ◌⊎◌, ℕ, Bool, true, false, List, Option}
 use Rattle.disk_model.specs.View.{View, GoesOn}
 use Rattle.script_io.specs.Streams.{Rose}
-use Rattle.segment_set.specs.Fits.{KeepsNames}
 use Rattle.copycat_tool.specs.declared.ending.Ending.{Ending}
 use Rattle.copycat_tool.specs.declared.ending.Ending.TheVariants.{Fault, NoMemory, WriteFault, Damaged}
 use Rattle.copycat_tool.specs.Programs.{IsStatus}

@@ -1,5 +1,5 @@
 -- What is printed of the host's answers, and what a call on the host makes of the run that it stands at.
-use Rattle.std.specs.Prelude.{◌≡◌, ◌<◌, ℕ, List, [], ◌∷◌, Option, Some, None, Result, Ok, Err}
+use Rattle.std.specs.Prelude.{◌≡◌, ◌<◌, ℕ, [], ◌∷◌, Option, Some, None, Result, Ok, Err}
 use Rattle.disk_model.specs.View.{View}
 use Rattle.host_types.specs.declared.entry.Refusal.{Refusal}
 use Rattle.script_text.specs.declared.printed.Printed.{Printed}

@@ -1,18 +1,17 @@
 -- What a run over a script prints and stores, as a function of the log, of how it lies in files, and of the script.
-use Rattle.std.specs.Prelude.{ℕ, zero, suc, ◌+◌, ◌&&◌, nat_lt, nat_le, if◌then◌else◌, List, [], ◌∷◌, ◌++◌, length, map, take, Option, Some, None, Result, Ok, Err, codes}
+use Rattle.std.specs.Prelude.{ℕ, zero, suc, ◌+◌, nat_lt, nat_le, if◌then◌else◌, List, [], ◌∷◌, ◌++◌, length, map, take, Option, Some, None, Result, Ok, Err, codes}
 use Rattle.std.specs.Fmt.{decimal}
-use Rattle.host_types.specs.Limits.{index_limit}
 use Rattle.host_types.specs.declared.entry.Body.{Body}
 use Rattle.host_types.specs.declared.entry.Body.TheVariants as bodies
 use Rattle.host_types.specs.declared.entry.Offer.{Offer}
 use Rattle.host_types.specs.declared.entry.Op.{Op}
 use Rattle.host_types.specs.declared.entry.Refusal.{Refusal}
-use Rattle.host_types.specs.declared.entry.Refusal.TheVariants.{GenEnd, NoSession}
+use Rattle.host_types.specs.declared.entry.Refusal.TheVariants.{NoSession}
 use Rattle.host_types.specs.declared.entry.Reply.{Reply}
 use Rattle.script_text.specs.declared.printed.Printed.{Printed}
 use Rattle.script_text.specs.declared.printed.Printed.TheVariants as prints
 use Rattle.script_text.specs.Printing.{printed_text}
-use Rattle.log_model.specs.plain.Admission.{Item, Offered, Expired, Admission, Admitted, Repeats, Refused, Expiry, Expires, Nobody, Not_now, admits, expires, first_refusal, refused_if}
+use Rattle.log_model.specs.plain.Admission.{Item, Offered, Expired, Admission, Admitted, Repeats, Refused, Expiry, Expires, Not_now, admits, expires, first_refusal}
 use Rattle.host_recovery.specs.Answers.{filed, finds_file}
 use Rattle.log_model.specs.plain.Commands.{plain_look}
 use Rattle.log_model.specs.cleaning.Layout.{Layout, alone, needs_file, with_entry}

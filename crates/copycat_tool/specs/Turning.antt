@@ -1,5 +1,5 @@
 -- What comes of a part of a run: acts that were done and told, or an ending within them.
-use Rattle.std.specs.Prelude.{◌≡◌, ◌≤◌, ◌<◌, ℕ, Bool, false, List, [], ◌∷◌, ◌++◌, length, take, Option, Some, None, Result, Ok, Err, OnOk, IsTrue, IsErrOf}
+use Rattle.std.specs.Prelude.{◌≡◌, ◌≤◌, ◌<◌, ℕ, Bool, false, List, [], length, take, Option, Some, None, Result, Ok, Err, OnOk, IsTrue, IsErrOf}
 use Rattle.disk_model.specs.View.{View}
 use Rattle.host_types.specs.declared.entry.Refusal.{Refusal}
 use Rattle.script_io.specs.Streams.{Rose}

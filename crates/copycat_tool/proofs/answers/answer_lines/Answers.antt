@@ -1,11 +1,10 @@
-use Rattle.std.proofs.Common.{◌≡◌, ℕ, ◌+◌, ◌<◌, List, ◌++◌, length, take, drop, Option, Some, Ok, Err, refl, ap, sym, ◌∙◌, subst, arith, length-drop}
-use Rattle.script_io.specs.Streams.{Rose}
+use Rattle.std.proofs.Common.{◌≡◌, ℕ, ◌+◌, ◌<◌, List, length, take, drop, Option, Some, Ok, Err, ap, sym, ◌∙◌, subst, arith, length-drop}
 use Rattle.copycat_tool.specs.declared.ending.Ending.{Ending}
 use Rattle.copycat_tool.specs.declared.reader.Piece.{Piece}
 use Rattle.copycat_tool.specs.declared.reader.Piece.TheVariants.{Line}
 use Rattle.copycat_tool.specs.declared.reader.ReadError.{ReadError}
 use Rattle.copycat_tool.specs.Pieces.{Finds, IsLineWithin}
-use Rattle.copycat_tool.specs.Turning.{ended_by, goes_on}
+use Rattle.copycat_tool.specs.Turning.{goes_on}
 use Rattle.copycat_tool.proofs.Keeping.{keeps_first, keeps_further}
 use Rattle.copycat_tool.proofs.LoopLemmas.{met_first, memory_exit, long_exit, above_exit, broken_exit, last_exit, line_exit, after_turn}
 use Rattle.copycat_tool.proofs.ReadingLemmas.{front_further, taken_front}

@@ -1,7 +1,6 @@
 -- So many lines were answered, and the rest is held and left.
 use Rattle.std.proofs.Common.{◌≡◌, ℕ, ◌+◌, ◌-◌, ◌≤◌, List, length, drop, Some, false}
 use Rattle.std.specs.Bool.{IsTrue}
-use Rattle.script_io.specs.Streams.{Rose}
 use Rattle.copycat_tool.specs.Report.{Run}
 use Rattle.copycat_tool.specs.Runs.{Files}
 use Rattle.copycat_tool.specs.RunStanding.{IsAt}

@@ -4,7 +4,6 @@ use Rattle.segment_set.specs.declared.opening.OpenError.{OpenError}
 use Rattle.segment_set.specs.declared.opening.OpenError.TheVariants as errors
 use Rattle.script_text.specs.declared.printed.Printed.TheVariants as prints
 use Rattle.resource_catalog.specs.Catalog.{catalog_decision}
-use Rattle.copycat_tool.specs.declared.ending.Ending.{Ending}
 use Rattle.copycat_tool.specs.declared.ending.Ending.TheVariants.{DiskFault, NoMemory}
 use Rattle.copycat_tool.specs.HostCalls.{IsTold}
 use Rattle.copycat_tool.specs.Endings.{ending_of}

@@ -1,4 +1,4 @@
-use Rattle.std.proofs.Common.{◌≡◌, ◌∙◌, ◌+◌, inr, Some, ap, arith, refl, sym}
+use Rattle.std.proofs.Common.{◌∙◌, ◌+◌, inr, Some, ap, arith, refl, sym}
 use Rattle.event_batches.specs.Kept.{as_batch}
 use Rattle.copycat_tool.specs.ClientTakes.{event_lines}
 use Rattle.copycat_tool.proofs.PuttingLemmas.{count_lines, event_line, put_next, put_part, put_whole}

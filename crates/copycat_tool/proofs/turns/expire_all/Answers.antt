@@ -1,10 +1,10 @@
-use Rattle.std.proofs.Common.{Option, Some, None, Result, Ok, Err, subst, rules}
+use Rattle.std.proofs.Common.{Some, None, Ok, Err, subst, rules}
 use Rattle.script_text.specs.declared.printed.Printed.TheVariants as prints
 use Rattle.copycat_tool.specs.declared.calls.Expiring.{Expiring}
 use Rattle.copycat_tool.specs.HostCalls.{IsExpiring}
 use Rattle.copycat_tool.specs.Report.{after, expired_answer}
 use Rattle.copycat_tool.specs.Turning.{goes_on}
-use Rattle.copycat_tool.proofs.ExpiringLemmas.{SoFar, at_end, ended_here, expired_as, failed, first, one_more}
+use Rattle.copycat_tool.proofs.ExpiringLemmas.{at_end, ended_here, expired_as, failed, first, one_more}
 use Rattle.copycat_tool.proofs.Keeping.{keeps_first, keeps_further, keeps_on}
 use Rattle.copycat_tool.proofs.TurnLemmas.{put_told}
 use Rattle.copycat_tool.proofs.turns.expire_all.Goals as goal

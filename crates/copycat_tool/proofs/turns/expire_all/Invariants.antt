@@ -1,7 +1,6 @@
 -- Some expired, and each had its line.
-use Rattle.std.proofs.Common.{◌≡◌, ℕ, length, false, Result, Ok}
+use Rattle.std.proofs.Common.{◌≡◌, length, false}
 use Rattle.std.specs.Bool.{IsTrue}
-use Rattle.copycat_tool.specs.declared.ending.Ending.{Ending}
 use Rattle.copycat_tool.specs.Report.{Run}
 use Rattle.copycat_tool.specs.Runs.{Files}
 use Rattle.copycat_tool.specs.RunStanding.{IsAt}
