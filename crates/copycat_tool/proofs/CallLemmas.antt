@@ -48,7 +48,7 @@ use Rattle.script_text.specs.Printing.{printed_text}
 use Rattle.copycat_tool.specs.declared.calls.Expiring.{Expiring}
 use Rattle.copycat_tool.specs.declared.ending.Ending.{Ending}
 use Rattle.copycat_tool.specs.declared.ending.Ending.TheVariants.{DiskFault, NoMemory}
-use Rattle.copycat_tool.specs.HostCalls.{HasFewer, IsExpiring, IsTold, change_of, expiry_told, offer_told, printed_of}
+use Rattle.copycat_tool.specs.HostCalls.{Expires_next, HasFewer, IsExpiring, IsTold, Makes, change_of, expiry_told, offer_told, printed_of}
 use Rattle.host_recovery.specs.Logs.{IsLog, StandsFor, hosted_form, plain_form}
 use Rattle.copycat_tool.specs.Report.{Run, Act, Change, Nothing, Stores, admission, admits_file, answer_by, changed, expired_answer, expiry, expiry_in, reopening, Reopens, stored_as}
 use Rattle.copycat_tool.specs.Runs.{BeginsAcked, Files, StandsEither}
@@ -404,3 +404,15 @@ told_fewer old new time (Err errors.Stopped) is state = tt
 told_fewer old new time (Err (errors.Refused why)) is state = tt
 told_fewer old new time (Err errors.NoMemory) is state = tt
 told_fewer old new time (Err errors.Disk) is state = tt
+
+-- ---- a call as a part of a run
+
+module _ {D : Type 0} (view : D → View) (files : Files) (old new : HostState D Parts) (run : Run) where
+  pub makes : (this : Act) (result : Result Printed Ending) → IfOk result (IsTold view files old new run this) → IfErr result (IsCut files (view old.disk) (view new.disk) run this.does) → Makes view files this old new run result
+  makes this (Ok printed) told cut = told
+  makes this (Err ending) told cut = cut
+
+  pub expires_next : (time : ℕ) (result : Result Expiring Ending) → IfOk result (IsExpiring view files old new run time) → IfErr result (IsCut files (view old.disk) (view new.disk) run (change_of (expiry run time) time))
+      → Expires_next view files time old new run result
+  expires_next time (Ok who) told cut = told
+  expires_next time (Err ending) told cut = cut

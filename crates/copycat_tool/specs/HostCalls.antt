@@ -18,7 +18,7 @@ use Rattle.copycat_tool.specs.declared.ending.Ending.{Ending}
 use Rattle.copycat_tool.specs.declared.ending.Ending.TheVariants.{DiskFault, NoMemory}
 use Rattle.copycat_tool.specs.Report.{Run, Act, Change, Nothing, Stores, expiry, expired_answer}
 use Rattle.copycat_tool.specs.Runs.{Files}
-use Rattle.copycat_tool.specs.RunStanding.{IsMade}
+use Rattle.copycat_tool.specs.RunStanding.{IsCut, IsMade}
 
 -- ---- what is printed
 
@@ -74,3 +74,15 @@ IsExpiring view files old new run time (expirings.Refused why) = (expiry run tim
 abbrev pub HasFewer : Expiring → ℕ → ℕ → Type 0
 HasFewer (expirings.Session index session) old new = new < old
 HasFewer _ old new = Unit {0}
+
+-- ---- a call as a part of a run
+
+-- this act was made and is told, or it was cut
+abbrev pub Makes : {D : Type 0} → (D → View) → Files → Act → HostState D Parts → HostState D Parts → Run → Result Printed Ending → Type 0
+Makes view files this old new run (Ok printed) = IsTold view files old new run this printed
+Makes view files this old new run (Err ending) = IsCut files (view old.disk) (view new.disk) run this.does ending
+
+-- who is due next expired, or that was cut
+abbrev pub Expires_next : {D : Type 0} → (D → View) → Files → ℕ → HostState D Parts → HostState D Parts → Run → Result Expiring Ending → Type 0
+Expires_next view files time old new run (Ok who) = IsExpiring view files old new run time who
+Expires_next view files time old new run (Err ending) = IsCut files (view old.disk) (view new.disk) run (change_of (expiry run time) time) ending

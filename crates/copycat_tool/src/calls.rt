@@ -1,12 +1,12 @@
 // Calls on the host over the catalog, and what is printed of their answers.
-ghost use Rattle.std.specs.Prelude.{◌≡◌, ◌∷◌, [], false, true, IsTrue, ℕ, IfOk, IfErr, OnOk, Err, length};
+ghost use Rattle.std.specs.Prelude.{◌≡◌, ◌∷◌, [], false, true, IsTrue, IfOk, IfErr, Err, length};
 ghost use Rattle.host_types.specs.Decision.{is_looking};
 ghost use Rattle.script_text.specs.Printing.{HasRange, printed_text};
-ghost use Rattle.copycat_tool.specs.Report.{Run, Nothing, Reopens, Stores, admission, answer_by, expiry, look_answer, quiet_answer, reopening};
+ghost use Rattle.copycat_tool.specs.Report.{Run, admission, answer_by, look_answer, quiet_answer, reopening};
 ghost use Rattle.copycat_tool.specs.Runs.{Files};
-ghost use Rattle.copycat_tool.specs.RunStanding.{IsAt, IsCut};
-ghost use Rattle.copycat_tool.specs.Turning.{KeepsRun};
-ghost use Rattle.copycat_tool.specs.HostCalls.{HasFewer, IsExpiring, IsTold, change_of, error_told, expiry_told, offer_told, printed_of};
+ghost use Rattle.copycat_tool.specs.RunStanding.{IsAt};
+ghost use Rattle.copycat_tool.specs.Turning.{IsPart};
+ghost use Rattle.copycat_tool.specs.HostCalls.{Expires_next, HasFewer, Makes, error_told, expiry_told, offer_told};
 
 use crate::ending::Ending;
 use disk_model::Disk;
@@ -81,13 +81,9 @@ pub fn make_offer<D: Disk>(
     host: &mut Host<D, Catalog>,
 ) -> Result<Printed, Ending>
     requires runs { host.old.stopped ≡ false }
-    ensures runs { OnOk result (host.new.stopped ≡ false) }
     ensures plain { IfOk result HasRange }
-    ensures answered { IsTrue D.tells → (files : Files) (run : Run) → IsAt D.view files host.old run
-        → IfOk result (IsTold D.view files host.old host.new run (answer_by (admission run one.now) run one.now)) }
-    ensures cut { IsTrue D.tells → (files : Files) (run : Run) → IsAt D.view files host.old run
-        → IfErr result (IsCut files (D.view host.old.disk) (D.view host.new.disk) run (answer_by (admission run one.now) run one.now).does) }
-    ensures keeps { KeepsRun D.tells D.view D.faults host.old host.new 0 0 ⊥ result }
+    ensures part { IsPart D.tells D.view D.faults host.old host.new 0 0 result (λ files run.
+        Makes D.view files (answer_by (admission run one.now) run one.now) host.old host.new run result) }
 {
     catalog_is_plain();
     plain_machines_are_plain();
@@ -104,13 +100,8 @@ pub fn expire_next<D: Disk>(
     host: &mut Host<D, Catalog>,
 ) -> Result<Expiring, Ending>
     requires runs { host.old.stopped ≡ false }
-    ensures runs { OnOk result (host.new.stopped ≡ false) }
     ensures fewer { IfOk result (λ who. HasFewer who (length host.old.core.sessions.sessions) (length host.new.core.sessions.sessions)) }
-    ensures answered { IsTrue D.tells → (files : Files) (run : Run) → IsAt D.view files host.old run
-        → IfOk result (IsExpiring D.view files host.old host.new run time) }
-    ensures cut { IsTrue D.tells → (files : Files) (run : Run) → IsAt D.view files host.old run
-        → IfErr result (IsCut files (D.view host.old.disk) (D.view host.new.disk) run (change_of (expiry run time) time)) }
-    ensures keeps { KeepsRun D.tells D.view D.faults host.old host.new 0 0 ⊥ result }
+    ensures part { IsPart D.tells D.view D.faults host.old host.new 0 0 result (λ files run. Expires_next D.view files time host.old host.new run result) }
 {
     catalog_is_plain();
     plain_machines_are_plain();
@@ -161,13 +152,8 @@ pub fn quiet_of<D: Disk>(host: &Host<D, Catalog>) -> Printed
 /// Closes the log and opens it again.
 pub fn reopen<D: Disk>(alloc: Global, host: &mut Host<D, Catalog>) -> Result<Printed, Ending>
     requires runs { host.old.stopped ≡ false }
-    ensures runs { OnOk result (host.new.stopped ≡ false) }
     ensures plain { IfOk result HasRange }
-    ensures answered { IsTrue D.tells → (files : Files) (run : Run) → IsAt D.view files host.old run
-        → IfOk result (IsTold D.view files host.old host.new run (reopening run)) }
-    ensures cut { IsTrue D.tells → (files : Files) (run : Run) → IsAt D.view files host.old run
-        → IfErr result (IsCut files (D.view host.old.disk) (D.view host.new.disk) run Reopens) }
-    ensures keeps { KeepsRun D.tells D.view D.faults host.old host.new 0 0 ⊥ result }
+    ensures part { IsPart D.tells D.view D.faults host.old host.new 0 0 result (λ files run. Makes D.view files (reopening run) host.old host.new run result) }
 {
     catalog_is_plain();
     plain_machines_are_plain();

@@ -18,17 +18,17 @@ loop-index-init g c = record {
 
 pub loop-index-preserved : goal.loop-index-preserved
 loop-index-preserved g c = record {
-  runs = c.in-Ok-Session.ensures.runs;
+  runs = c.in-Ok-Session.ensures.part.runs;
   so_far = λ t files run at.
       let so_far = c.loop-index.invariant.so_far t files run at in
       let here = after files.size run so_far.done in
       let P : Expiring → Type 0 = λ who. IsExpiring g.D.Disk.view files c.loop-index.host c.expire_next.new.host here c.args.time who in
-      let who = subst P c.in-Ok-Session.field-0-is (c.in-Ok-Session.ensures.answered t files here so_far.all.at) in
+      let who = subst P c.in-Ok-Session.field-0-is (c.in-Ok-Session.ensures.part.told t files here so_far.all.at) in
       one_more g.D.Disk.view files c.args.time c.args.host.now c.loop-index.host run (g.O.Sink.written c.args.out.now) (g.O.Sink.written c.loop-index.out) so_far c.in-Ok-Session.session c.in-Ok-Session.index c.expire_next.new.host who.0 (g.O.Sink.written c.put_answer.new.out)
       (put_told g.D.Disk.view files c.loop-index.host c.expire_next.new.host here (expired_answer here c.args.time c.in-Ok-Session.session) (g.O.Sink.written c.loop-index.out) (g.O.Sink.written c.put_answer.new.out) (g.O.Sink.faults c.loop-index.out) (g.O.Sink.faults c.put_answer.new.out)
       (prints.Expired c.in-Ok-Session.index c.in-Ok-Session.session) who.1 (Ok c.in-Ok.field-0) c.in-Ok.ensures.put);
   keeps = keeps_further g.D.Disk.tells g.D.Disk.view g.D.Disk.faults c.args.host.now c.loop-index.host c.expire_next.new.host (g.O.Sink.faults c.args.out.now) (g.O.Sink.faults c.loop-index.out) (g.O.Sink.faults c.put_answer.new.out) c.loop-index.invariant.keeps ⊥ ⊥ (λ no. no) goes_on
-      (keeps_on g.D.Disk.tells g.D.Disk.view g.D.Disk.faults c.loop-index.host c.expire_next.new.host ⊥ c.expire_next.result c.expire_next.ensures.keeps (g.O.Sink.faults c.loop-index.out) (g.O.Sink.faults c.put_answer.new.out) c.put_answer.ensures.later);
+      (keeps_on g.D.Disk.tells g.D.Disk.view g.D.Disk.faults c.loop-index.host c.expire_next.new.host ⊥ c.expire_next.result c.expire_next.ensures.part.keeps (g.O.Sink.faults c.loop-index.out) (g.O.Sink.faults c.put_answer.new.out) c.put_answer.ensures.later);
 }
 
 pub returns-in-Err-put_answer : goal.returns-in-Err-put_answer
@@ -38,7 +38,7 @@ returns-in-Err-put_answer g c = record {
       let so_far = c.loop-index.invariant.so_far t files run at in
       let here = after files.size run so_far.done in
       let P : Expiring → Type 0 = λ who. IsExpiring g.D.Disk.view files c.loop-index.host c.expire_next.new.host here c.args.time who in
-      let who = subst P c.in-Ok-Session.field-0-is (c.in-Ok-Session.ensures.answered t files here so_far.all.at) in
+      let who = subst P c.in-Ok-Session.field-0-is (c.in-Ok-Session.ensures.part.told t files here so_far.all.at) in
       ended_here g.D.Disk.view files c.args.time c.args.host.now c.loop-index.host run (g.O.Sink.written c.args.out.now) (g.O.Sink.written c.loop-index.out) so_far c.in-Ok-Session.session c.in-Ok-Session.index c.expire_next.new.host who.0 (g.D.Disk.view c.expire_next.new.host.disk)
       c.in-Err-put_answer.ending (g.O.Sink.written c.put_answer.new.out)
       (put_told g.D.Disk.view files c.loop-index.host c.expire_next.new.host here (expired_answer here c.args.time c.in-Ok-Session.session) (g.O.Sink.written c.loop-index.out) (g.O.Sink.written c.put_answer.new.out) (g.O.Sink.faults c.loop-index.out) (g.O.Sink.faults c.put_answer.new.out)
@@ -53,7 +53,7 @@ returns-in-Ok-Nobody g c = record {
       let so_far = c.loop-index.invariant.so_far t files run at in
       let here = after files.size run so_far.done in
       let P : Expiring → Type 0 = λ who. IsExpiring g.D.Disk.view files c.loop-index.host c.expire_next.new.host here c.args.time who in
-      let who = subst P c.in-Ok-Nobody.field-0-is (c.in-Ok-Nobody.ensures.answered t files here so_far.all.at) in
+      let who = subst P c.in-Ok-Nobody.field-0-is (c.in-Ok-Nobody.ensures.part.told t files here so_far.all.at) in
       expired_as g.D.Disk.view files c.args.time c.args.host.now c.loop-index.host c.expire_next.new.host run (g.O.Sink.written c.args.out.now) (g.O.Sink.written c.loop-index.out) None who.1
       (at_end g.D.Disk.view files c.args.time c.args.host.now c.loop-index.host run (g.O.Sink.written c.args.out.now) (g.O.Sink.written c.loop-index.out) so_far None who.0);
   keeps = search rules;
@@ -66,7 +66,7 @@ returns-in-Ok-Refused g c = record {
       let so_far = c.loop-index.invariant.so_far t files run at in
       let here = after files.size run so_far.done in
       let P : Expiring → Type 0 = λ who. IsExpiring g.D.Disk.view files c.loop-index.host c.expire_next.new.host here c.args.time who in
-      let who = subst P c.in-Ok-Refused.field-0-is (c.in-Ok-Refused.ensures.answered t files here so_far.all.at) in
+      let who = subst P c.in-Ok-Refused.field-0-is (c.in-Ok-Refused.ensures.part.told t files here so_far.all.at) in
       expired_as g.D.Disk.view files c.args.time c.args.host.now c.loop-index.host c.expire_next.new.host run (g.O.Sink.written c.args.out.now) (g.O.Sink.written c.loop-index.out) (Some c.in-Ok-Refused.why) who.1
       (at_end g.D.Disk.view files c.args.time c.args.host.now c.loop-index.host run (g.O.Sink.written c.args.out.now) (g.O.Sink.written c.loop-index.out) so_far (Some c.in-Ok-Refused.why) who.0);
   keeps = search rules;
@@ -78,6 +78,6 @@ returns-in-Err g c = record {
   told = λ t files run at.
       let so_far = c.loop-index.invariant.so_far t files run at in
       let here = after files.size run so_far.done in
-      failed g.D.Disk.view files c.args.time c.args.host.now c.loop-index.host run (g.O.Sink.written c.args.out.now) (g.O.Sink.written c.loop-index.out) so_far c.expire_next.new.host c.in-Err.ending (c.in-Err.ensures.cut t files here so_far.all.at);
+      failed g.D.Disk.view files c.args.time c.args.host.now c.loop-index.host run (g.O.Sink.written c.args.out.now) (g.O.Sink.written c.loop-index.out) so_far c.expire_next.new.host c.in-Err.ending (c.in-Err.ensures.part.told t files here so_far.all.at);
   keeps = search rules;
 }
