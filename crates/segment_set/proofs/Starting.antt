@@ -1,5 +1,5 @@
 -- A log with no file gets its first one, and then its first entry.
-use Rattle.std.proofs.Common.{◌≡◌, inl, ℕ, ◌+◌, ◌≤◌, Bool, IsTrue, List, [], ◌∷◌, length, Option, Some, None, Result, Ok, Err, sym, ap, subst, ◌∙◌, arith}
+use Rattle.std.proofs.Common.{◌≡◌, inl, ℕ, ◌+◌, ◌≤◌, Bool, IsTrue, List, [], ◌∷◌, length, Option, Some, None, Result, Ok, Err, refl, sym, ap, subst, ◌∙◌, arith}
 use Rattle.std.proofs.lemmas.Result.{on_ok_weaker}
 use Rattle.host_types.specs.declared.entry.Entry.{Entry}
 use Rattle.disk_model.specs.declared.disk.DiskFault.{DiskFault}
@@ -14,10 +14,10 @@ use Rattle.segment_files.specs.Folder.{folder, EachHas, Stands}
 use Rattle.segment_set.specs.declared.tail.Tail.{Tail}
 use Rattle.segment_set.specs.declared.parts.Parts.{Parts}
 use Rattle.segment_set.specs.Appends.{Appends, AppendsOn, BeginsOn}
-use Rattle.segment_set.specs.Growth.{new_tail}
+use Rattle.segment_set.specs.Growth.{HasNoneOr, new_tail}
 use Rattle.segment_set.specs.Fits.{FilesFit, HasOffsets, IsEmptyWhereNone, IsFrameFor, IsMade, IsNewTail, IsTailHeld, IsTailAt, IsTailOf, KeepsNames, StandsOrGains, first_id, gained, greatest_after, last_of, log_of, parts_in, tail_parts}
 use Rattle.segment_set.specs.Tails.{tail_last}
-use Rattle.segment_set.proofs.Gaining.{fits_at, list_at}
+use Rattle.segment_set.proofs.Gaining.{fits_at, left_made, list_at}
 use Rattle.segment_set.proofs.Names.{names_further}
 use Rattle.segment_set.proofs.Noting.{none_noted, offsets_at}
 
@@ -77,9 +77,9 @@ module _ (v m : View) (old mid : Parts) (frame : List ℕ) (size : ℕ) (none : 
   Gains entry = StandsOrGains old.name (log_of (parts_in v.reading old)) entry
 
   -- while the file is made
-  left_beginning : (entry : Entry) → LeavesOnly v m (λ (image : Image). Stands (folder old.name image) []) → LeavesOnly v m (Gains entry)
+  left_beginning : (entry : Entry) → LeavesOnly v m (HasNoneOr old.name (new_tail (first_id (old.greatest + 1)) size)) → LeavesOnly v m (Gains entry)
   left_beginning entry only =
-      weaker v m (λ (image : Image). Stands (folder old.name image) []) (Gains entry) only
+      weaker v m (λ (image : Image). Stands (folder old.name image) []) (Gains entry) (left_made v m old.name (first_id (old.greatest + 1)) size refl only)
       (λ image stands. inl (subst (λ (l : List Entry). Stands (folder old.name image) l) (sym no_log) stands))
 
   -- it couldn't be made

@@ -1,12 +1,10 @@
 -- What an append does to the files of a log, and what is remembered of them.
 use Rattle.std.specs.Prelude.{◌≡◌, ◌+◌, ℕ, Bool, List, [], ◌∷◌, Result, OnOk, IsTrue}
 use Rattle.host_types.specs.declared.entry.Entry.{Entry}
-use Rattle.disk_model.specs.Image.{Image}
 use Rattle.disk_model.specs.View.{View, LeavesOnly, HasCause}
 use Rattle.disk_model.specs.declared.disk.DiskFault.{DiskFault}
-use Rattle.segment_files.specs.Folder.{folder, Stands}
 use Rattle.segment_set.specs.declared.parts.Parts.{Parts}
-use Rattle.segment_set.specs.Growth.{new_tail}
+use Rattle.segment_set.specs.Growth.{HasNoneOr, new_tail}
 use Rattle.segment_set.specs.Fits.{Fits, IsEmptyWhereNone, IsFrameFor, IsHeld, KeepsNames, StandsOrGains, first_id, gained, greatest_after, last_of, log_of, parts_in}
 
 -- on a disk that tells, where this frame has the next entry, and a new file has this size
@@ -35,6 +33,6 @@ pub record BeginsOn (v w : View) (old new : Parts) (size : ℕ) {T : Type 0} (re
   pub parts : OnOk result (parts_in w.reading new ≡ new_tail (first_id (old.greatest + 1)) size ∷ [])
   pub held : OnOk result (IsHeld v old → IsHeld w new)
   -- a crash leaves no part or the empty one, and both are the empty log
-  pub any_moment : IsHeld v old → LeavesOnly v w (λ (image : Image). Stands (folder old.name image) [])
+  pub any_moment : IsHeld v old → LeavesOnly v w (HasNoneOr old.name (new_tail (first_id (old.greatest + 1)) size))
   pub empty : IsHeld v old → IsEmptyWhereNone w old.name
   pub others : KeepsNames v w old.name

@@ -1,6 +1,6 @@
-use Rattle.std.proofs.Common.{refl, ◌+◌, arith}
+use Rattle.std.proofs.Common.{◌+◌, arith}
 use Rattle.segment_set.specs.Fits.{first_id}
-use Rattle.segment_set.proofs.Gaining.{fresh_id, keeps_names, left_made}
+use Rattle.segment_set.proofs.Gaining.{fresh_id, keeps_names}
 use Rattle.segment_set.proofs.Emptied.{not_listed}
 use Rattle.segment_set.proofs.Starting.{begun_fits, begun_held, begun_offsets, begun_parts, held_none, nothing_noted}
 use Rattle.segment_set.proofs.parts.Parts.begin.Goals as goal
@@ -27,7 +27,7 @@ returns-in-Ok-clause-told g c = λ t.
       };
       parts = begun_parts v w name old greatest none tail size is made;
       held = λ held. begun_held v w name old greatest none tail size is made (c.in-Ok.ensures.held t (held_none v w name old greatest none held));
-      any_moment = λ held. left_made v w name (first_id (greatest + 1)) size refl (c.make_file.ensures.any_moment t (held_none v w name old greatest none held));
+      any_moment = λ held. c.make_file.ensures.any_moment t (held_none v w name old greatest none held);
       empty = λ held unlisted. c.make_file.ensures.unlisted t (held_none v w name old greatest none held) (not_listed w name (first_id (greatest + 1)) unlisted);
       others = keeps_names v w name (first_id (greatest + 1)) (c.make_file.ensures.others t);
     }
@@ -44,7 +44,7 @@ returns-in-Err-clause-told g c = λ t.
       fits = tt;
       parts = tt;
       held = tt;
-      any_moment = λ held. left_made v w name (first_id (greatest + 1)) c.args.size refl (c.make_file.ensures.any_moment t (held_none v w name old greatest none held));
+      any_moment = λ held. c.make_file.ensures.any_moment t (held_none v w name old greatest none held);
       empty = λ held unlisted. c.make_file.ensures.unlisted t (held_none v w name old greatest none held) (not_listed w name (first_id (greatest + 1)) unlisted);
       others = keeps_names v w name (first_id (greatest + 1)) (c.make_file.ensures.others t);
     }
