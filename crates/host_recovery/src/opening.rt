@@ -66,7 +66,8 @@ fn load<D: Disk, M: Machine>(
 ) -> Result<Parts, OpenError>
     requires fresh { hosted M.cells core.old ≡ hosted_nothing }
     requires unconfirmed { ConfirmsAcked core.old.sessions }
-    ensures loads { Loads D.tells (D.view disk.old) (D.view disk.new) (D.faults disk.old) (D.faults disk.new) name.now result }
+    ensures loads { Loads D.tells (D.view disk.old) (D.view disk.new) (D.faults disk.old) (D.faults disk.new)
+        name.now result }
     ensures state { IfOk result (λ parts. IsTrue D.tells → hosted M.cells core.new ≡ replayed (hosted_told M.decides) 0 (entries_of (parts_in (D.view disk.new).reading parts))) }
     ensures last { IfOk result (λ parts. core.new.last ≡ last_of parts) }
     ensures confirmed { OnOk result (ConfirmsAcked core.new.sessions) }
@@ -100,7 +101,8 @@ impl<D: Disk, M: Machine> Host<D, M> {
         requires none { M.cells machine ≡ [] }
         requires least { 2 ≤ segment }
         requires most { segment ≤ 65536 }
-        ensures { Opens M.decides D.tells D.view D.faults M.cells disk (disk_behind result) name.now segment (opening_result result) }
+        ensures { Opens M.decides D.tells D.view D.faults M.cells
+            disk (disk_behind result) name.now segment (opening_result result) }
     {
         let mut disk = disk;
         let mut core = Core::new(alloc, machine);
@@ -128,7 +130,8 @@ impl<D: Disk, M: Machine> Host<D, M> {
     /// does whatever a crash leaves on the way.
     pub fn reopen(&mut self, alloc: Global, machine: M) -> Result<(), OpenError>
         requires { M.cells machine ≡ [] }
-        ensures opens { Opens M.decides D.tells D.view D.faults M.cells self.old.disk self.new.disk self.old.parts.name self.old.size (opened_again self.new result) }
+        ensures opens { Opens M.decides D.tells D.view D.faults M.cells
+            self.old.disk self.new.disk self.old.parts.name self.old.size (opened_again self.new result) }
         ensures stops { OnErr result (self.new.stopped ≡ true) }
         ensures name { self.new.parts.name ≡ self.old.parts.name }
         ensures size { self.new.size ≡ self.old.size }

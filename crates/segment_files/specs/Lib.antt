@@ -3,3 +3,4 @@ pub mod Files
 pub mod Folder
 pub mod Parse
 pub mod Numbers
+pub mod Writes

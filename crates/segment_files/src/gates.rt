@@ -1,8 +1,9 @@
 // A gate is a byte that stands shut on the disk before anything behind it counts.
-ghost use Rattle.std.specs.Prelude.{◌≡◌, ◌≢◌, ◌<◌, ◌≤◌, ◌+◌, ◌^◌, ℕ, List, [], ◌∷◌, ◌++◌, length, IsTrue, IfOk, OnOk};
+ghost use Rattle.std.specs.Prelude.{◌≡◌, ◌≢◌, ◌<◌, ◌≤◌, ◌+◌, ◌^◌, ℕ, List, [], ◌∷◌, length, drop, IsTrue, IfOk, OnOk};
 ghost use Rattle.disk_model.specs.Image.{IsFileId, place, written};
-ghost use Rattle.disk_model.specs.View.{LeavesAt, HasCause, Reads};
-ghost use Rattle.segment_files.specs.Files.{IsShut, KeepsOthers, OrGate, Becomes, IsAtGate, OrFrame, appended, then_shut};
+ghost use Rattle.disk_model.specs.View.{Reads};
+ghost use Rattle.segment_files.specs.Files.{IsShut, OrGate, Becomes, IsAtGate, OrFrame, appended, then_shut};
+ghost use Rattle.segment_files.specs.Writes.{Writes};
 
 use disk_model::{Disk, DiskFault, FileId};
 use host_types::LogName;
@@ -18,9 +19,8 @@ pub fn open_gate<D: Disk>(
     requires shut { IsTrue D.tells → IsShut (D.view disk.old) (place name.now id) at }
     ensures opened { OnOk result (IsTrue D.tells → (b : List ℕ) → Reads (D.view disk.old) (place name.now id) b
         → Becomes (D.view disk.old) (D.view disk.new) (place name.now id) (written b at (1 ∷ []))) }
-    ensures any_moment { IsTrue D.tells → LeavesAt (D.view disk.old) (D.view disk.new) (OrGate (D.view disk.old) (place name.now id) at) }
-    ensures others { IsTrue D.tells → KeepsOthers (D.view disk.old) (D.view disk.new) (place name.now id) }
-    ensures cause { HasCause (D.faults disk.old) (D.faults disk.new) result }
+    ensures writes { Writes D.tells (D.view disk.old) (D.view disk.new) (D.faults disk.old) (D.faults disk.new)
+        (place name.now id) (OrGate (D.view disk.old) (place name.now id) at) result }
 {
     disk.sync(name, id)?;
     disk.write_at(name, id, at, &[1])?;
@@ -42,9 +42,8 @@ fn write_behind<D: Disk>(
     ensures gate { IfOk result (λ next. next ≡ gate + length behind.now) }
     ensures appended { OnOk result (IsTrue D.tells → (b : List ℕ) → Reads (D.view disk.old) (place name.now id) b
         → Becomes (D.view disk.old) (D.view disk.new) (place name.now id) (appended b gate behind.now)) }
-    ensures any_moment { IsTrue D.tells → LeavesAt (D.view disk.old) (D.view disk.new) (OrFrame (D.view disk.old) (place name.now id) gate behind.now) }
-    ensures others { IsTrue D.tells → KeepsOthers (D.view disk.old) (D.view disk.new) (place name.now id) }
-    ensures cause { HasCause (D.faults disk.old) (D.faults disk.new) result }
+    ensures writes { Writes D.tells (D.view disk.old) (D.view disk.new) (D.faults disk.old) (D.faults disk.new)
+        (place name.now id) (OrFrame (D.view disk.old) (place name.now id) gate behind.now) result }
 {
     disk.write_at(name, id, gate + 1, behind)?;
     open_gate(disk, name, id, gate)?;
@@ -68,10 +67,8 @@ pub fn append_frame<D: Disk>(
     ensures gate { IfOk result (λ next. next + 1 ≡ gate + length frame.now) }
     ensures appended { OnOk result (IsTrue D.tells → (b rest : List ℕ) → frame.now ≡ 1 ∷ then_shut rest → Reads (D.view disk.old) (place name.now id) b
         → Becomes (D.view disk.old) (D.view disk.new) (place name.now id) (appended b gate (then_shut rest))) }
-    ensures any_moment { IsTrue D.tells → (rest : List ℕ) → frame.now ≡ 1 ∷ then_shut rest
-        → LeavesAt (D.view disk.old) (D.view disk.new) (OrFrame (D.view disk.old) (place name.now id) gate (then_shut rest)) }
-    ensures others { IsTrue D.tells → KeepsOthers (D.view disk.old) (D.view disk.new) (place name.now id) }
-    ensures cause { HasCause (D.faults disk.old) (D.faults disk.new) result }
+    ensures writes { Writes D.tells (D.view disk.old) (D.view disk.new) (D.faults disk.old) (D.faults disk.new)
+        (place name.now id) (OrFrame (D.view disk.old) (place name.now id) gate (drop 1 frame.now)) result }
 {
     write_behind(disk, name, id, gate, &frame[1..])
 }

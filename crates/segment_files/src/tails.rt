@@ -1,8 +1,9 @@
 // How a file is made: closed, filled, and then opened.
 ghost use Rattle.std.specs.Prelude.{◌≡◌, ◌<◌, ◌≤◌, ◌+◌, ◌^◌, ℕ, List, [], ◌∷◌, length, IsTrue, OnOk, None};
 ghost use Rattle.disk_model.specs.Image.{IsFileId, place, written};
-ghost use Rattle.disk_model.specs.View.{LeavesAt, LeavesOnly, HasCause, Reads, Reaches};
-ghost use Rattle.segment_files.specs.Files.{IsShut, Becomes, KeepsOthers, OrClosed, OrWhole, IsLike};
+ghost use Rattle.disk_model.specs.View.{LeavesAt, Reads, Reaches};
+ghost use Rattle.segment_files.specs.Files.{IsShut, Becomes, OrClosed, OrWhole};
+ghost use Rattle.segment_files.specs.Writes.{Writes};
 
 use crate::gates::open_gate;
 use disk_model::{Disk, DiskFault, FileId};
@@ -13,9 +14,8 @@ pub fn create_closed<D: Disk>(disk: &mut D, name: &LogName, id: FileId) -> Resul
     requires id { IsFileId id }
     requires fresh { IsTrue D.tells → (D.view disk.old).reading (place name.now id) ≡ None }
     ensures closed { OnOk result (IsTrue D.tells → Becomes (D.view disk.old) (D.view disk.new) (place name.now id) (0 ∷ [])) }
-    ensures any_moment { IsTrue D.tells → LeavesAt (D.view disk.old) (D.view disk.new) (OrClosed (D.view disk.old) (place name.now id)) }
-    ensures others { IsTrue D.tells → KeepsOthers (D.view disk.old) (D.view disk.new) (place name.now id) }
-    ensures cause { HasCause (D.faults disk.old) (D.faults disk.new) result }
+    ensures writes { Writes D.tells (D.view disk.old) (D.view disk.new) (D.faults disk.old) (D.faults disk.new)
+        (place name.now id) (OrClosed (D.view disk.old) (place name.now id)) result }
 {
     disk.create(name, id)?;
     disk.write_at(name, id, 0, &[0])?;
@@ -37,9 +37,8 @@ pub fn fill<D: Disk>(
     ensures filled { OnOk result (IsTrue D.tells → (b : List ℕ) → Reads (D.view disk.old) (place name.now id) b
         → Reads (D.view disk.new) (place name.now id) (written b at bytes.now)) }
     ensures shut { OnOk result (IsTrue D.tells → IsShut (D.view disk.new) (place name.now id) 0) }
-    ensures any_moment { IsTrue D.tells → LeavesAt (D.view disk.old) (D.view disk.new) (OrClosed (D.view disk.old) (place name.now id)) }
-    ensures others { IsTrue D.tells → KeepsOthers (D.view disk.old) (D.view disk.new) (place name.now id) }
-    ensures cause { HasCause (D.faults disk.old) (D.faults disk.new) result }
+    ensures writes { Writes D.tells (D.view disk.old) (D.view disk.new) (D.faults disk.old) (D.faults disk.new)
+        (place name.now id) (OrClosed (D.view disk.old) (place name.now id)) result }
 {
     disk.write_at(name, id, at, bytes)
 }
@@ -54,11 +53,10 @@ pub fn make_tail<D: Disk>(
     requires id { IsFileId id }
     requires fresh { IsTrue D.tells → (D.view disk.old).reading (place name.now id) ≡ None }
     ensures whole { OnOk result (IsTrue D.tells → Becomes (D.view disk.old) (D.view disk.new) (place name.now id) (1 ∷ behind.now)) }
-    ensures any_moment { IsTrue D.tells → LeavesAt (D.view disk.old) (D.view disk.new) (OrWhole (D.view disk.old) (place name.now id) (1 ∷ behind.now)) }
+    ensures writes { Writes D.tells (D.view disk.old) (D.view disk.new) (D.faults disk.old) (D.faults disk.new)
+        (place name.now id) (OrWhole (D.view disk.old) (place name.now id) (1 ∷ behind.now)) result }
     // Where it isn't listed then, no crash has left it whole.
     ensures unlisted { IsTrue D.tells → (D.view disk.new).reading (place name.now id) ≡ None → LeavesAt (D.view disk.old) (D.view disk.new) (OrClosed (D.view disk.old) (place name.now id)) }
-    ensures others { IsTrue D.tells → KeepsOthers (D.view disk.old) (D.view disk.new) (place name.now id) }
-    ensures cause { HasCause (D.faults disk.old) (D.faults disk.new) result }
 {
     create_closed(disk, name, id)?;
     fill(disk, name, id, 1, behind)?;

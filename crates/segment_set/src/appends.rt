@@ -192,7 +192,8 @@ impl Parts {
         requires room { tail.last < last_limit }
         requires frame { (entry : Entry) × IsFrameFor tail.last frame.now entry }
         requires prepared { 1 ≤ self.old.offsets.spare }
-        ensures { (size : ℕ) → Appends D.tells (D.view disk.old) (D.view disk.new) (D.faults disk.old) (D.faults disk.new) self.old self.new frame.now size result }
+        ensures { (size : ℕ) → Appends D.tells (D.view disk.old) (D.view disk.new) (D.faults disk.old) (D.faults disk.new)
+            self.old self.new frame.now size result }
     {
         match push_frame(disk, &self.name, tail, frame) {
             Ok(next) => {
@@ -220,7 +221,8 @@ impl Parts {
         requires most { size ≤ 65536 }
         requires frame { (entry : Entry) × IsFrameFor (last_of self.old) frame.now entry }
         requires prepared { 1 ≤ self.old.offsets.spare }
-        ensures { Appends D.tells (D.view disk.old) (D.view disk.new) (D.faults disk.old) (D.faults disk.new) self.old self.new frame.now size result }
+        ensures { Appends D.tells (D.view disk.old) (D.view disk.new) (D.faults disk.old) (D.faults disk.new)
+            self.old self.new frame.now size result }
     {
         match self.tail {
             Some(tail) => self.append_to(disk, tail, frame),

@@ -204,7 +204,8 @@ impl Parts {
     /// read after the syncs is what every crash leaves from then on. Where it answers `Damaged` no file has been removed.
     /// Of each entry it keeps where it stands, in two words.
     pub fn load<D: Disk>(alloc: Global, disk: &mut D, name: &LogName) -> Result<Parts, OpenError>
-        ensures { Loads D.tells (D.view disk.old) (D.view disk.new) (D.faults disk.old) (D.faults disk.new) name.now result }
+        ensures { Loads D.tells (D.view disk.old) (D.view disk.new) (D.faults disk.old) (D.faults disk.new)
+            name.now result }
     {
         let ids = match settle_all(disk, name) {
             Ok(ids) => ids,

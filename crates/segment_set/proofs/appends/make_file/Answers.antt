@@ -33,7 +33,7 @@ returns-clause-any_moment g c = λ t each.
     let id = c.args.id in
     let behind = c.behind_gate-behind.result in
     let whole : parse id (1 ∷ behind) ≡ Whole (new_tail id c.args.size) = ap (parse id) c.behind_gate-behind.ensures ∙ tail_read id c.args.size c.requires.id c.requires.least c.requires.most [] in
-    tailing v c.args.name.now id behind (new_tail id c.args.size) (g.met.D.Disk.sound c.args.disk.now t) whole e each (c.make_tail.ensures.any_moment t)
+    tailing v c.args.name.now id behind (new_tail id c.args.size) (g.met.D.Disk.sound c.args.disk.now t) whole e each (c.make_tail.ensures.writes.any_moment t)
 
 pub returns-clause-held : goal.returns-clause-held
 returns-clause-held g c =

@@ -1,6 +1,7 @@
-use Rattle.std.proofs.Common.{◌≡◌, refl, ◌+◌, ℕ, sym, subst, ◌∙◌, arith}
+use Rattle.std.proofs.Common.{List, ap, drop, ◌≡◌, refl, ◌+◌, ℕ, sym, subst, ◌∙◌, arith}
 use Rattle.disk_model.specs.Image.{place}
-use Rattle.segment_files.specs.Files.{IsAtGate}
+use Rattle.disk_model.specs.View.{LeavesAt}
+use Rattle.segment_files.specs.Files.{IsAtGate, OrFrame}
 use Rattle.segment_set.specs.Fits.{frame_size}
 use Rattle.segment_set.proofs.Frames.{behind, behind_is, frame_least, frame_long, frame_short}
 use Rattle.segment_set.proofs.Pushing.{push_left, push_held, push_reads, push_gate, push_last, push_size, push_end, push_placed}
@@ -45,7 +46,8 @@ returns-in-Ok-clause-grown g c = λ t part entry whole f.
 pub returns-in-Ok-clause-any_moment : goal.returns-in-Ok-clause-any_moment
 returns-in-Ok-clause-any_moment g c = λ t part entry whole f each.
     push_left (g.D.Disk.view c.args.disk.now) (g.D.Disk.view c.append_frame.new.disk) c.args.name.now c.args.tail part c.args.frame.now entry (g.met.D.Disk.sound c.args.disk.now t) (c.requires.fits t) whole c.requires.room f each
-    (c.append_frame.ensures.any_moment t (behind c.args.tail.last entry) (behind_is c.args.tail.last c.args.frame.now entry f))
+    (subst (λ (l : List ℕ). LeavesAt (g.D.Disk.view c.args.disk.now) (g.D.Disk.view c.append_frame.new.disk) (OrFrame (g.D.Disk.view c.args.disk.now) (place c.args.name.now c.args.tail.id) c.args.tail.gate l))
+    (ap (drop 1) (behind_is c.args.tail.last c.args.frame.now entry f)) (c.append_frame.ensures.writes.any_moment t))
 
 pub returns-in-Ok-clause-held : goal.returns-in-Ok-clause-held
 returns-in-Ok-clause-held g c = λ t part entry whole f each.
@@ -55,7 +57,8 @@ returns-in-Ok-clause-held g c = λ t part entry whole f each.
 pub returns-in-Err-clause-any_moment : goal.returns-in-Err-clause-any_moment
 returns-in-Err-clause-any_moment g c = λ t part entry whole f each.
     push_left (g.D.Disk.view c.args.disk.now) (g.D.Disk.view c.append_frame.new.disk) c.args.name.now c.args.tail part c.args.frame.now entry (g.met.D.Disk.sound c.args.disk.now t) (c.requires.fits t) whole c.requires.room f each
-    (c.append_frame.ensures.any_moment t (behind c.args.tail.last entry) (behind_is c.args.tail.last c.args.frame.now entry f))
+    (subst (λ (l : List ℕ). LeavesAt (g.D.Disk.view c.args.disk.now) (g.D.Disk.view c.append_frame.new.disk) (OrFrame (g.D.Disk.view c.args.disk.now) (place c.args.name.now c.args.tail.id) c.args.tail.gate l))
+    (ap (drop 1) (behind_is c.args.tail.last c.args.frame.now entry f)) (c.append_frame.ensures.writes.any_moment t))
 
 pub returns-in-Ok-clause-tail : goal.returns-in-Ok-clause-tail
 returns-in-Ok-clause-tail g c =
