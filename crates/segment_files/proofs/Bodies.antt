@@ -1,19 +1,20 @@
 -- How the entries of a frame's body are read, one after the other.
-use Rattle.std.proofs.Common.{◌≡◌, ℕ, zero, suc, ◌+◌, ◌-◌, ◌<◌, ◌≤◌, Bool, true, false, not, ◌&&◌, nat_eq, nat_le, List, [], ◌∷◌, ◌++◌, length, take, drop, Some, None, refl, sym, ap, subst, ◌∙◌, arith, if◌then◌else◌, append_assoc, length-append, length-take, length-drop}
+use Rattle.std.proofs.Common.{◌≡◌, ℕ, zero, suc, ◌+◌, ◌-◌, ◌<◌, ◌≤◌, Bool, true, false, not, ◌&&◌, List, [], ◌∷◌, ◌++◌, length, take, drop, Some, None, refl, sym, ap, subst, ◌∙◌, arith, if◌then◌else◌, append_assoc, length-append, length-take, length-drop}
 use Rattle.std.proofs.lemmas.List.{append-nil, drop-drop, drop_all, take_all}
-use Rattle.std.proofs.lemmas.Bool.{and_parts, eqb-true, le-leb, leb-true}
-use Rattle.host_types.specs.Limits.{last_limit}
+use Rattle.std.proofs.lemmas.Bool.{le-leb}
 use Rattle.host_types.specs.declared.entry.Entry.{Entry}
 use Rattle.entry_codec.specs.Spelled.{IsSpelledBy, number_spelled, body_spelled, spelled}
 use Rattle.std.specs.Int.{w64, to_be_bytes}
 use Rattle.entry_codec.specs.Reading.{Spelling, Spells, Spoils, spelling}
 use Rattle.segment_files.specs.Numbers.{Eight, number_at}
-use Rattle.segment_files.specs.Parse.{Numbered, Body, Holds, Breaks, Follows, with_entry, is_misplaced, spelled_first, first_of, body, frame_room, is_next}
-use Rattle.segment_files.specs.Contents.{AreIn, Offset_list, ReadsBody, ReadsNext}
+use Rattle.segment_files.specs.declared.rule.Rule.{Rule}
+use Rattle.segment_files.specs.Parse.{Numbered, Body, Holds, Breaks, Follows, with_entry, is_misplaced, spelled_first, first_of, body, follows, room}
+use Rattle.segment_files.specs.Contents.{AreIn, Gained, Offset_list, ReadsBody, ReadsNext, last_read}
 use Rattle.segment_files.specs.declared.windows.EntryRead.{EntryRead}
 use Rattle.segment_files.specs.declared.windows.EntryRead.TheVariants.{Whole as Is_entry, Damaged as Is_no_entry}
 use Rattle.segment_files.proofs.Indexes.{index_read}
 use Rattle.segment_files.proofs.Placing.{in_none, in_one, in_more}
+use Rattle.segment_files.proofs.PuttingDown.{follows_above, gained_more, gained_none, gained_one, last_low, last_pushed, reaches_index}
 
 -- entries ahead of a body, and how many bytes they take
 abbrev pub in_front : Numbered → ℕ → Body → Body
@@ -74,166 +75,151 @@ module _ (f : Follows) where
       placed false is = by (spelling l) is
 
 -- THE BODY, as far as it was read
-pub record BodyPassed (bytes : List ℕ) (before place count at : ℕ) (old new : Offset_list) : Type 0 where
-  pub more : Numbered
-  pub offsets : Offset_list
-  pub as_many : length offsets ≡ length more
-  pub items : new ≡ old ++ offsets
-  pub few : count ≤ frame_room
-  pub long : length more ≡ count
+pub record BodyPassed (rule : Rule) (base : ℕ) (bytes : List ℕ) (place count at : ℕ) (old new : Offset_list) : Type 0 where
+  pub gained : Gained rule base old new
+  pub few : count ≤ room rule
+  pub long : length gained.more ≡ count
   pub within : at ≤ length bytes
-  pub walk : body is_next frame_room before bytes ≡ in_front more at (body is_next (frame_room - count) (before + count) (drop at bytes))
-  pub laid : AreIn bytes before place (length old) more offsets at
+  pub walk : body (follows rule) (room rule) (last_read base old) bytes ≡ in_front gained.more at (body (follows rule) (room rule - count) (last_read base new) (drop at bytes))
+  pub laid : AreIn base bytes place gained.more gained.offsets at
 
-pub body_start : (bytes : List ℕ) (before place : ℕ) (old : Offset_list) → BodyPassed bytes before place 0 0 old old
-body_start bytes before place old = record {
-  more = [];
-  offsets = [];
-  as_many = refl;
-  items = sym (append-nil old);
-  few = omega arith;
-  long = refl;
-  within = omega arith;
-  walk = in_front_none (body is_next frame_room before bytes) ∙ ap (λ (k : ℕ). in_front [] 0 (body is_next frame_room k bytes)) (omega arith);
-  laid = in_none bytes before place (length old);
-}
+module _ (rule : Rule) (base : ℕ) (bytes : List ℕ) (place : ℕ) where
+  abbrev f : Follows
+  f = follows rule
 
-module _ (bytes : List ℕ) (before place count at : ℕ) (old new : Offset_list) (passed : BodyPassed bytes before place count at old new) where
-  abbrev rest : List ℕ
-  rest = drop at bytes
-
-  left : at < length bytes → 0 < length rest
-  left lt = omega (arith, length-drop at bytes)
-
-  breaks_with : (behind : ℕ) → body is_next (frame_room - count) (before + count) rest ≡ Breaks behind → body is_next frame_room before bytes ≡ Breaks (at + behind)
-  breaks_with behind broken = passed.walk ∙ ap (in_front passed.more at) broken
-
-  -- how many there are by now
-  pub so_many : length new ≡ length old + count
-  so_many = ap length passed.items ∙ length-append old passed.offsets ∙ ap (λ (k : ℕ). length old + k) (passed.as_many ∙ passed.long)
-
-  -- it goes on, and no entry may follow
-  pub breaks_full : at < length bytes → count ≡ frame_room → ReadsBody bytes before place old new (Some at)
-  breaks_full lt full =
-      let none : frame_room - count ≡ 0 = omega (arith, full) in
-      let broken : body is_next frame_room before bytes ≡ Breaks (at + 0) = breaks_with 0 (ap (λ (k : ℕ). body is_next k (before + count) rest) none ∙ body_no_room is_next (before + count) rest (left lt)) in
-      record {
-        more = passed.more;
-        offsets = passed.offsets;
-        as_many = passed.as_many;
-        items = passed.items;
-        is = (broken ∙ ap (λ (k : ℕ). Breaks k) (omega arith), passed.within);
-      }
-
-  -- room for one more
-  one_less : count < frame_room → frame_room - count ≡ suc (frame_room - (count + 1))
-  one_less lt = omega arith
-
-  at_entry : at < length bytes → count < frame_room → body is_next (frame_room - count) (before + count) rest
-      ≡ first_of is_next (before + count) rest (λ index size. body is_next (frame_room - (count + 1)) index (drop size rest))
-  at_entry lt room = ap (λ (k : ℕ). body is_next k (before + count) rest) (one_less room) ∙ body_more is_next (frame_room - (count + 1)) (before + count) rest (left lt)
-
-  room_left : (count ≡ frame_room → ⊥) → count < frame_room
-  room_left not_full = let few = passed.few in omega arith
-
-  -- no entry follows
-  pub breaks_next : at < length bytes → (count ≡ frame_room → ⊥) → (next : Offset_list) (behind : ℕ) → ReadsNext rest (before + count) (place + at) new next (Is_no_entry behind) → ReadsBody bytes before place old next (Some (at + behind))
-  breaks_next lt not_full next behind none = record {
-    more = passed.more;
-    offsets = passed.offsets;
-    as_many = passed.as_many;
-    items = none.1 ∙ passed.items;
-    is = (
-      breaks_with behind (at_entry lt (room_left not_full) ∙ none.0 (λ index size. body is_next (frame_room - (count + 1)) index (drop size rest))),
-      (let low = none.2 in omega (arith, low, length-drop at bytes, lt)),
-    );
+  pub body_start : (old : Offset_list) → BodyPassed rule base bytes place 0 0 old old
+  body_start old = record {
+    gained = gained_none rule base old;
+    few = omega arith;
+    long = refl;
+    within = omega arith;
+    walk = in_front_none (body f (room rule) (last_read base old) bytes) ∙ ap (λ (k : ℕ). in_front [] 0 (body f k (last_read base old) bytes)) {x = room rule} {y = room rule - 0} (omega arith);
+    laid = in_none base bytes place;
   }
 
-  -- with the entry that follows
-  pub one_more : at < length bytes → (count ≡ frame_room → ⊥) → (next : Offset_list) (size : ℕ) → ReadsNext rest (before + count) (place + at) new next (Is_entry size) → BodyPassed bytes before place (count + 1) (at + size) old next
-  one_more lt not_full next size (entry, reads, low, items, some, short, by) =
-      let es : Numbered = (before + count + 1, entry) ∷ [] in
-      let os : Offset_list = (length new, place + at) ∷ [] in
-      let D = body is_next (frame_room - (count + 1)) (before + count + 1) (drop size rest) in
-      record {
-        more = passed.more ++ es;
-        offsets = passed.offsets ++ os;
-        as_many = length-append passed.offsets os ∙ ap (λ (k : ℕ). k + 1) passed.as_many ∙ sym (length-append passed.more es);
-        items = items ∙ ap (λ (l : Offset_list). l ++ os) passed.items ∙ append_assoc old passed.offsets os;
-        few = let room = room_left not_full in omega arith;
-        long = omega (arith, length-append passed.more es, passed.long);
-        within = omega (arith, short, length-drop at bytes, lt);
-        walk = passed.walk
-            ∙ ap (in_front passed.more at)
-            (at_entry lt (room_left not_full)
-            ∙ reads (λ index size. body is_next (frame_room - (count + 1)) index (drop size rest))
-            ∙ in_front_one (before + count + 1) entry size D)
-            ∙ in_front_more passed.more es at size D
-            ∙ ap (λ (k : ℕ). in_front (passed.more ++ es) (at + size) (body is_next (frame_room - (count + 1)) k (drop size rest))) (omega arith)
-            ∙ ap (λ (l : List ℕ). in_front (passed.more ++ es) (at + size) (body is_next (frame_room - (count + 1)) (before + (count + 1)) l)) (drop-drop size at bytes);
-        laid = in_more bytes before place (length old) passed.more passed.offsets at passed.laid (before + count) (length new) size es os passed.within (omega (arith, so_many)) (in_one rest (before + count) (place + at) (length new) size entry short some by);
-      }
+  module _ (count at : ℕ) (old new : Offset_list) (passed : BodyPassed rule base bytes place count at old new) where
+    abbrev rest : List ℕ
+    rest = drop at bytes
 
-  -- to its end
-  pub holds_all : length bytes ≤ at → ReadsBody bytes before place old new None
-  holds_all le =
-      let end : at ≡ length bytes = omega (arith, le, passed.within) in
-      record {
-        more = passed.more;
-        offsets = passed.offsets;
-        as_many = passed.as_many;
-        items = passed.items;
-        is = (
-          passed.walk
-              ∙ ap (λ (l : List ℕ). in_front passed.more at (body is_next (frame_room - count) (before + count) l)) (drop_all at bytes le)
-              ∙ ap (in_front passed.more at) (body_end is_next (frame_room - count) (before + count))
-              ∙ ap (λ (l : Numbered). Holds l) (append-nil passed.more),
-          subst (λ (k : ℕ). AreIn bytes before place (length old) passed.more passed.offsets k) end passed.laid,
-        );
-      }
+    -- the index before the next
+    abbrev now : ℕ
+    now = last_read base new
 
--- what an entry is that was read
-module _ (bytes : List ℕ) (before : ℕ) where
-  -- one that may not stand there, whatever else it is
-  pub misplaced_next : (place : ℕ) (old : Offset_list) → is_misplaced is_next before bytes ≡ true → ReadsNext bytes before place old old (Is_no_entry 0)
-  misplaced_next place old is = (
-    (λ rest. ap (λ (t : Bool). if t then Breaks 0 else spelled_first (spelling bytes) rest) is),
-    refl,
-    omega arith,
-  )
+    left : at < length bytes → 0 < length rest
+    left lt = omega (arith, length-drop at bytes)
 
-  module _ (placed : is_misplaced is_next before bytes ≡ false) where
-    by_spelling : (rest : ℕ → ℕ → Body) (s : Spelling) → spelling bytes ≡ s → first_of is_next before bytes rest ≡ spelled_first s rest
-    by_spelling rest s spells = ap (λ (t : Bool). if t then Breaks 0 else spelled_first (spelling bytes) rest) placed ∙ ap (λ (x : Spelling). spelled_first x rest) spells
+    breaks_with : (behind : ℕ) → body f (room rule - count) now rest ≡ Breaks behind → body f (room rule) (last_read base old) bytes ≡ Breaks (at + behind)
+    breaks_with behind broken = passed.walk ∙ ap (in_front passed.gained.more at) broken
 
-    pub spoils_next : (place : ℕ) (old : Offset_list) (at : ℕ) → spelling bytes ≡ Spoils at → at ≤ length bytes → ReadsNext bytes before place old old (Is_no_entry at)
-    spoils_next place old at spoils low = ((λ rest. by_spelling rest (Spoils at) spoils), refl, low)
+    -- it goes on, and no entry may follow
+    pub breaks_full : at < length bytes → count ≡ room rule → ReadsBody rule base bytes place old new (Some at)
+    breaks_full lt full =
+        let none : room rule - count ≡ 0 = omega (arith, full) in
+        let broken : body f (room rule) (last_read base old) bytes ≡ Breaks (at + 0) = breaks_with 0 (ap (λ (k : ℕ). body f k now rest) none ∙ body_no_room f now rest (left lt)) in
+        record { gained = passed.gained; is = (broken ∙ ap (λ (k : ℕ). Breaks k) (omega arith), passed.within) }
 
-    -- an index that may stand there is the next
-    pub next_index : (index : ℕ) (entry : Entry) (size : ℕ) → spelling bytes ≡ Spells index entry size → is_next before index ≡ true
-    next_index index entry size spells =
+    -- room for one more
+    one_less : count < room rule → room rule - count ≡ suc (room rule - (count + 1))
+    one_less lt = omega arith
+
+    at_entry : at < length bytes → count < room rule → body f (room rule - count) now rest ≡ first_of f now rest (λ index size. body f (room rule - (count + 1)) index (drop size rest))
+    at_entry lt some = ap (λ (k : ℕ). body f k now rest) (one_less some) ∙ body_more f (room rule - (count + 1)) now rest (left lt)
+
+    room_left : (count ≡ room rule → ⊥) → count < room rule
+    room_left not_full = let few = passed.few in omega arith
+
+    -- no entry follows
+    pub breaks_next : at < length bytes → (count ≡ room rule → ⊥) → (next : Offset_list) (behind : ℕ) → ReadsNext rule base rest (place + at) new next (Is_no_entry behind) → ReadsBody rule base bytes place old next (Some (at + behind))
+    breaks_next lt not_full next behind none = subst (λ (l : Offset_list). ReadsBody rule base bytes place old l (Some (at + behind))) (sym none.1) (record {
+      gained = passed.gained;
+      is = (
+        breaks_with behind (at_entry lt (room_left not_full) ∙ none.0 (λ index size. body f (room rule - (count + 1)) index (drop size rest))),
+        (let low = none.2 in omega (arith, low, length-drop at bytes, lt)),
+      );
+    })
+
+    -- with the entry that follows
+    pub one_more : at < length bytes → (count ≡ room rule → ⊥) → (next : Offset_list) (size : ℕ) → ReadsNext rule base rest (place + at) new next (Is_entry size) → BodyPassed rule base bytes place (count + 1) (at + size) old next
+    one_more lt not_full next size (index, entry, reads, t, items, some, short, by) =
+        let es : Numbered = (index, entry) ∷ [] in
+        let os : Offset_list = (index - base, place + at) ∷ [] in
+        let last : last_read base next ≡ index = ap (last_read base) items ∙ last_pushed base new (index - base, place + at) ∙ reaches_index rule base new index t in
+        let D = body f (room rule - (count + 1)) index (drop size rest) in
+        record {
+          gained = gained_more rule base old new next passed.gained (gained_one rule base new next index (place + at) entry t items);
+          few = let some_room = room_left not_full in omega arith;
+          long = omega (arith, length-append passed.gained.more es, passed.long);
+          within = omega (arith, short, length-drop at bytes, lt);
+          walk = passed.walk
+              ∙ ap (in_front passed.gained.more at)
+              (at_entry lt (room_left not_full)
+              ∙ reads (λ index size. body f (room rule - (count + 1)) index (drop size rest))
+              ∙ in_front_one index entry size D)
+              ∙ in_front_more passed.gained.more es at size D
+              ∙ ap (λ (k : ℕ). in_front (passed.gained.more ++ es) (at + size) (body f (room rule - (count + 1)) k (drop size rest))) (sym last)
+              ∙ ap (λ (l : List ℕ). in_front (passed.gained.more ++ es) (at + size) (body f (room rule - (count + 1)) (last_read base next) l)) (drop-drop size at bytes);
+          laid = in_more base bytes place passed.gained.more passed.gained.offsets at passed.laid size es os passed.within
+              (in_one base rest (place + at) size index entry (omega (arith, follows_above rule now index t, last_low base new)) short some by);
+        }
+
+    -- to its end
+    pub holds_all : length bytes ≤ at → ReadsBody rule base bytes place old new None
+    holds_all le =
+        let end : at ≡ length bytes = omega (arith, le, passed.within) in
+        record {
+          gained = passed.gained;
+          is = (
+            passed.walk
+                ∙ ap (λ (l : List ℕ). in_front passed.gained.more at (body f (room rule - count) now l)) (drop_all at bytes le)
+                ∙ ap (in_front passed.gained.more at) (body_end f (room rule - count) now)
+                ∙ ap (λ (l : Numbered). Holds l) (append-nil passed.gained.more),
+            omega (arith, passed.long, passed.few),
+            subst (λ (k : ℕ). AreIn base bytes place passed.gained.more passed.gained.offsets k) end passed.laid,
+          );
+        }
+
+-- what an entry is that was read, behind an index
+module _ (f : Follows) (bytes : List ℕ) (before : ℕ) where
+  by_place : (t : Bool) → is_misplaced f before bytes ≡ t → (rest : ℕ → ℕ → Body) → first_of f before bytes rest ≡ (if t then Breaks 0 else spelled_first (spelling bytes) rest)
+  by_place t is rest = ap (λ (x : Bool). if x then Breaks 0 else spelled_first (spelling bytes) rest) is
+
+  module _ (placed : is_misplaced f before bytes ≡ false) where
+    by_spelling : (rest : ℕ → ℕ → Body) (s : Spelling) → spelling bytes ≡ s → first_of f before bytes rest ≡ spelled_first s rest
+    by_spelling rest s spells = by_place false placed rest ∙ ap (λ (x : Spelling). spelled_first x rest) spells
+
+    -- its index may stand there
+    pub next_follows : (index : ℕ) (entry : Entry) (size : ℕ) → spelling bytes ≡ Spells index entry size → f before index ≡ true
+    next_follows index entry size spells =
         let has = index_read bytes index entry size spells in
-        let t = is_next before (number_at Eight 0 bytes) in
+        let t = f before (number_at Eight 0 bytes) in
         let misplaced : not t ≡ false = ap (λ (x : Bool). x && not t) (sym (le-leb 8 (length bytes) has.whole)) ∙ placed in
-        ap (is_next before) (sym has.is) ∙ is_true t misplaced
+        ap (f before) (sym has.is) ∙ is_true t misplaced
       where
         is_true : (t : Bool) → not t ≡ false → t ≡ true
         is_true true is = refl
         is_true false is = absurd (cc)
 
-    pub fit_next : (place : ℕ) (old next : Offset_list) (index : ℕ) (entry : Entry) (size : ℕ) → spelling bytes ≡ Spells index entry size → next ≡ old ++ (length old, place) ∷ [] → 1 ≤ size → size ≤ length bytes
-        → IsSpelledBy (take size bytes) index entry → ReadsNext bytes before place old next (Is_entry size)
-    fit_next place old next index entry size spells items some short by =
-        let parts = and_parts (nat_eq index (before + 1)) (nat_le index last_limit) (next_index index entry size spells) in
-        let is : index ≡ before + 1 = eqb-true index (before + 1) parts.0 in (
-          entry,
-          (λ rest. by_spelling rest (Spells (before + 1) entry size) (subst (λ (k : ℕ). spelling bytes ≡ Spells k entry size) is spells)),
-          subst (λ (k : ℕ). k ≤ last_limit) is (leb-true index last_limit parts.1),
-          items,
-          some,
-          short,
-          subst (λ (k : ℕ). IsSpelledBy (take size bytes) k entry) is by,
-        )
+module _ (rule : Rule) (base : ℕ) (bytes : List ℕ) (place : ℕ) (old : Offset_list) where
+  -- one that may not stand there, whatever else it is
+  pub misplaced_next : is_misplaced (follows rule) (last_read base old) bytes ≡ true → ReadsNext rule base bytes place old old (Is_no_entry 0)
+  misplaced_next is = (by_place (follows rule) bytes (last_read base old) true is, refl, omega arith)
+
+  module _ (placed : is_misplaced (follows rule) (last_read base old) bytes ≡ false) where
+    pub spoils_next : (at : ℕ) → spelling bytes ≡ Spoils at → at ≤ length bytes → ReadsNext rule base bytes place old old (Is_no_entry at)
+    spoils_next at spoils low = ((λ rest. by_spelling (follows rule) bytes (last_read base old) placed rest (Spoils at) spoils), refl, low)
+
+    pub fit_next : (next : Offset_list) (index : ℕ) (entry : Entry) (size : ℕ) → spelling bytes ≡ Spells index entry size → next ≡ old ++ (index - base, place) ∷ [] → 1 ≤ size → size ≤ length bytes
+        → IsSpelledBy (take size bytes) index entry → ReadsNext rule base bytes place old next (Is_entry size)
+    fit_next next index entry size spells items some short by = (
+      index,
+      entry,
+      (λ rest. by_spelling (follows rule) bytes (last_read base old) placed rest (Spells index entry size) spells),
+      next_follows (follows rule) bytes (last_read base old) placed index entry size spells,
+      items,
+      some,
+      short,
+      by,
+    )
 
 some_spelled : (index : ℕ) (entry : Entry) → 1 ≤ length (spelled index entry)
 unfolding spelled number_spelled
@@ -248,6 +234,6 @@ all_behind : (bytes : List ℕ) (at : ℕ) → take (length bytes - at) (drop at
 all_behind bytes at = take_all (length bytes - at) (drop at bytes) (omega (arith, length-drop at bytes))
 
 -- what was read of the bytes from a place on
-pub next_at : (bytes : List ℕ) (at k place : ℕ) (old new : Offset_list) (a b : EntryRead) → a ≡ b → ReadsNext (take (length bytes - at) (drop at bytes)) k place old new a → ReadsNext (drop at bytes) k place old new b
-next_at bytes at k place old new a b is read =
-    subst (λ (l : List ℕ). ReadsNext l k place old new b) (all_behind bytes at) (subst (λ (x : EntryRead). ReadsNext (take (length bytes - at) (drop at bytes)) k place old new x) is read)
+pub next_at : (rule : Rule) (base : ℕ) (bytes : List ℕ) (at place : ℕ) (old new : Offset_list) (a b : EntryRead) → a ≡ b → ReadsNext rule base (take (length bytes - at) (drop at bytes)) place old new a → ReadsNext rule base (drop at bytes) place old new b
+next_at rule base bytes at place old new a b is read =
+    subst (λ (l : List ℕ). ReadsNext rule base l place old new b) (all_behind bytes at) (subst (λ (x : EntryRead). ReadsNext rule base (take (length bytes - at) (drop at bytes)) place old new x) is read)

@@ -1,11 +1,12 @@
--- Which bytes are the descriptor of an appended file.
-use Rattle.std.proofs.Common.{◌≡◌, ℕ, ◌+◌, ◌≤◌, Bool, true, false, nat_lt, nat_le, if◌then◌else◌, List, [], ◌∷◌, ◌++◌, length, take, Option, Some, None, refl, ap, ◌∙◌, arith}
-use Rattle.std.proofs.lemmas.Bool.{and_from, le-leb, le-ltb, ltb-false}
+-- Which bytes are the descriptor of a file.
+use Rattle.std.proofs.Common.{◌≡◌, ℕ, ◌+◌, ◌≤◌, Bool, true, false, nat_lt, nat_le, if◌then◌else◌, List, [], ◌∷◌, ◌++◌, length, take, Option, Some, None, refl, sym, ap, ◌∙◌, arith}
+use Rattle.std.proofs.lemmas.Bool.{and_from, and_parts, le-leb, leb-true, le-ltb, ltb-false}
 use Rattle.disk_model.specs.declared.file_id.FileId.{FileId}
 use Rattle.segment_files.specs.declared.descriptor.Field.{Field}
 use Rattle.segment_files.specs.declared.numbers.Size.{Size}
-use Rattle.segment_files.specs.Numbers.{Four, bytes_of, number_at}
-use Rattle.segment_files.specs.Parse.{descriptor_fields, exactly, first_wrong, is_right, wrong_at}
+use Rattle.host_types.specs.Limits.{index_limit}
+use Rattle.segment_files.specs.Numbers.{Four, Eight, bytes_of, number_at}
+use Rattle.segment_files.specs.Parse.{descriptor_fields, exactly, fields_by, first_wrong, in_rewritten, is_right, is_rewritten, last_place, number_or_zero, wrong_at}
 
 -- the first place, by what the first field is
 abbrev go_on : Option ℕ → List Field → List ℕ → Option ℕ
@@ -62,6 +63,37 @@ last_whole (g ∷ fields) f head right = by (λ rest. last_whole fields f head r
     by further (Some at) right = absurd (cc)
 
 -- so a descriptor without a wrong field has all its bytes
-pub whole_head : (id : FileId) (head : List ℕ) → first_wrong (descriptor_fields id) head ≡ None → 64 ≤ length head
+pub whole_head : (id : FileId) (rewritten : Bool) (last : ℕ) (head : List ℕ) → first_wrong (fields_by id rewritten last) head ≡ None → 64 ≤ length head
+whole_head id rewritten last head right = last_whole (take 11 (fields_by id rewritten last)) (exactly 60 Four 0) head right
+
+-- each field of one without a wrong field is right
+pub all_right : (fields : List Field) (head : List ℕ) → first_wrong fields head ≡ None → AreRight fields head
+all_right [] head right = tt
+all_right (f ∷ fields) head right = by (λ rest. all_right fields head rest) (wrong_at f head) refl right
+  where
+    by : (first_wrong fields head ≡ None → AreRight fields head) → (o : Option ℕ) → wrong_at f head ≡ o → go_on o fields head ≡ None → AreRight (f ∷ fields) head
+    by rest None is right = (is, rest right)
+    by rest (Some at) is right = absurd (cc)
+
+-- so its number is one that it may have
+pub number_right : (f : Field) (head : List ℕ) → wrong_at f head ≡ None → (f.least ≤ number_at f.size f.at head) × (number_at f.size f.at head ≤ f.most)
+number_right f head right = by (is_right f (number_at f.size f.at head)) refl (sym (by_number f head (field_whole f head right)) ∙ right)
+  where
+    by : (t : Bool) → is_right f (number_at f.size f.at head) ≡ t → (if t then None else Some f.at) ≡ None → (f.least ≤ number_at f.size f.at head) × (number_at f.size f.at head ≤ f.most)
+    by true is none =
+        let parts = and_parts (nat_le f.least (number_at f.size f.at head)) (nat_le (number_at f.size f.at head) f.most) is in
+        (leb-true f.least (number_at f.size f.at head) parts.0, leb-true (number_at f.size f.at head) f.most parts.1)
+    by false is none = absurd (cc)
+
+-- the last index of a file that a compaction wrote
+pub last_right : (id : FileId) (last : ℕ) (head : List ℕ) → first_wrong (fields_by id true last) head ≡ None → (id.base ≤ number_at Eight last_place head) × (number_at Eight last_place head ≤ index_limit)
+last_right id last head right =
+    let all = all_right (fields_by id true last) head right in
+    number_right (in_rewritten true last_place id.base index_limit) head all.1.1.1.1.1.1.0
+
+-- the fields as they are built
+pub fields_are : (id : FileId) (head : List ℕ) (rewritten : Bool) (last : ℕ) (fields : List Field) → rewritten ≡ is_rewritten head → last ≡ number_or_zero Eight last_place head → fields ≡ fields_by id rewritten last
+    → first_wrong (descriptor_fields id head) head ≡ first_wrong fields head
 unfolding descriptor_fields
-whole_head id head right = last_whole (take 11 (descriptor_fields id)) (exactly 60 Four 0) head right
+fields_are id head rewritten last fields is last_is fields_is =
+    sym (ap (λ (l : List Field). first_wrong l head) (fields_is ∙ ap (λ (t : Bool). fields_by id t last) is ∙ ap (λ (n : ℕ). fields_by id (is_rewritten head) n) last_is))

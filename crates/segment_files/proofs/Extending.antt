@@ -1,12 +1,12 @@
 -- A file gets one entry more: those before it stand where they stood, and it stands behind the gate and the length of its frame.
-use Rattle.std.proofs.Common.{◌≡◌, ℕ, ◌+◌, ◌-◌, ◌≤◌, List, [], ◌∷◌, ◌++◌, length, take, drop, sym, ap, subst, ◌∙◌, arith, append_assoc, length-append, length-take, length-drop}
-use Rattle.std.proofs.lemmas.List.{append-nil, drop_at, drop-drop, drop-take, drop-append-le, take-append-le, take-take, take_all}
+use Rattle.std.proofs.Common.{◌≡◌, ℕ, ◌+◌, ◌-◌, ◌≤◌, List, [], ◌∷◌, ◌++◌, length, take, drop, sym, ap, subst, ◌∙◌, arith, append_assoc, length-append, length-take}
+use Rattle.std.proofs.lemmas.List.{append-nil, drop_at, drop-drop, drop-take, take-append-le, take-take, take_all}
 use Rattle.host_types.specs.declared.entry.Entry.{Entry}
 use Rattle.disk_model.specs.Image.{written}
 use Rattle.entry_codec.specs.Spelled.{EntryFits, IsInRange, IsSpelledBy, spelled}
 use Rattle.segment_files.specs.Parse.{Numbered}
 use Rattle.segment_files.specs.Contents.{AreAt, HasAt, Offset_list, body_bytes, frame_bytes}
-use Rattle.segment_files.proofs.Placing.{at_behind, at_from, at_join, at_one, at_to}
+use Rattle.segment_files.proofs.Placing.{at_join, at_one, at_to}
 
 -- what lies before a gate is the same in both files
 part_same : (b : List ℕ) (gate p size : ℕ) → p + size ≤ gate → take size (drop p (take gate b)) ≡ take size (drop p b)

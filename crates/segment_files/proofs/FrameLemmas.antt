@@ -12,7 +12,7 @@ use Rattle.host_types.specs.declared.entry.Entry.{Entry}
 use Rattle.entry_codec.specs.Spelled.{spelled}
 use Rattle.entry_codec.specs.Reading.{Spelling, Spells, spelling}
 use Rattle.segment_files.specs.Numbers.{One, Four, Eight, number_at}
-use Rattle.segment_files.specs.Parse.{Numbered, Holds, Breaks, with_entry, is_misplaced, spelled_first, body, Framed, Whole, frame, frame_room, is_next, mark, parse, appended_part, descriptor_fields, first_wrong}
+use Rattle.segment_files.specs.Parse.{Numbered, Holds, Breaks, with_entry, is_misplaced, spelled_first, body, Framed, Whole, frame, frame_room, is_next, mark, parse, Appended, part_of, descriptor_fields, fields_by, first_wrong, last_place, number_or_zero}
 use Rattle.segment_files.specs.Contents.{appended_descriptor, descriptor_bytes, body_bytes, frame_bytes}
 use Rattle.segment_files.proofs.Descriptors.{field_exact, field_right, none_wrong}
 use Rattle.segment_files.proofs.Indexes.{index_read}
@@ -85,8 +85,8 @@ module _ (before index : ℕ) (entry : Entry) (f : Follows before index entry) w
         let least = f.least in
         let there : 4 + length bytes ≤ length behind = omega (arith, length-append bytes rest) in
         ap (frame is_next frame_room before) behind_is
-        ∙ frame_form before behind
-        ∙ ap (λ (k : ℕ). form k (length behind) (body_in before k behind)) size_read
+        ∙ frame_form is_next frame_room before behind
+        ∙ ap (λ (k : ℕ). form k (length behind) (body_in is_next frame_room before k behind)) size_read
         ∙ ap (λ (l : List ℕ). form (length bytes) (length behind) (body is_next frame_room before l)) (take-append-le (length bytes) bytes rest (omega arith) ∙ take_all (length bytes) bytes (omega arith))
         ∙ ap (form (length bytes) (length behind)) body_read
         ∙ form_whole (length bytes) (length behind) one there (size_fits (length bytes) least (omega (arith, most)))
@@ -139,13 +139,13 @@ module _ (id : FileId) (size : ℕ) (is : IsFileId id) (least : 2 ≤ size) (mos
   whole : length head ≡ 64
   whole = refl
 
-  no_field_wrong : first_wrong (descriptor_fields id) head ≡ None
+  no_field_wrong : first_wrong (descriptor_fields id head) head ≡ None
   unfolding descriptor_fields number_at
   no_field_wrong =
-      none_wrong (descriptor_fields id) head (
+      none_wrong (fields_by id false (number_or_zero Eight last_place head)) head (
         field_exact 1 One 1 head (omega (arith, whole)) refl,
         (
-          field_exact 2 One 0 head (omega (arith, whole)) refl,
+          field_right (record { at = 2; size = One; least = 0; most = 1 }) head (omega (arith, whole)) (omega arith) (omega arith),
           (
             field_exact 3 One 0 head (omega (arith, whole)) refl,
             (
@@ -183,8 +183,9 @@ module _ (id : FileId) (size : ℕ) (is : IsFileId id) (least : 2 ≤ size) (mos
   -- with a shut gate behind it, it is a part without entries
   pub tail_read : (rest : List ℕ) → parse id (descriptor_bytes (appended_descriptor id size) ++ 0 ∷ rest)
       ≡ Whole (record { id = id; rewritten = false; last = id.base - 1; cut = 0; floor = 0; size = size; entries = []; gate = 64 })
+  unfolding number_at
   tail_read rest =
       good_head id (head ++ 0 ∷ rest) (and_from _ _ refl (le-leb 2 (length (head ++ 0 ∷ rest)) (omega (arith, length-append head (0 ∷ rest))))) no_field_wrong
-      ∙ ap (appended_part id head) (walk_shut (id.base - 1) 0 rest refl)
+      ∙ ap (part_of id head) (walk_shut Appended (id.base - 1) 0 rest refl refl)
       ∙ ap (λ (k : ℕ). Whole (record { id = id; rewritten = false; last = id.base - 1 + 0; cut = 0; floor = 0; size = k; entries = []; gate = 64 })) size_read_back
       ∙ ap (λ (k : ℕ). Whole (record { id = id; rewritten = false; last = k; cut = 0; floor = 0; size = size; entries = []; gate = 64 })) (omega arith)

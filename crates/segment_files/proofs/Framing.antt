@@ -1,15 +1,17 @@
--- Which bytes behind an open gate are a frame of an appended file.
-use Rattle.std.proofs.Common.{◌≡◌, ◌⊎◌, inl, inr, ⊎_elim, ℕ, ◌+◌, ◌-◌, ◌<◌, ◌≤◌, min, Bool, true, false, not, ◌&&◌, nat_lt, nat_le, List, [], ◌++◌, length, take, drop, Some, None, refl, sym, ap, subst, ◌∙◌, arith, if◌then◌else◌, length-take, length-drop, length-append}
+-- Which bytes behind an open gate are a frame.
+use Rattle.std.proofs.Common.{◌≡◌, ◌⊎◌, inl, inr, ⊎_elim, ℕ, ◌+◌, ◌-◌, ◌<◌, ◌≤◌, min, Bool, true, false, not, ◌&&◌, nat_lt, nat_le, List, ◌++◌, length, take, drop, Some, None, refl, sym, ap, subst, ◌∙◌, arith, if◌then◌else◌, length-take, length-drop, length-append}
 use Rattle.std.proofs.lemmas.List.{append-nil, take_all, take-append-le, drop-append-le, get_or_append_left}
 use Rattle.std.proofs.lemmas.Bool.{and_from, cases_lt, le-ltb, le-leb, lt-ltb, lt-leb}
 use Rattle.std.specs.Int.{w32, w64, from_be_bytes}
 use Rattle.segment_files.specs.declared.numbers.Size.{Size}
 use Rattle.segment_files.specs.Numbers.{One, Four, Eight, bytes_of, number_at}
-use Rattle.segment_files.specs.Parse.{Numbered, Body, Holds, body, body_limit, Frame, Framed, Crooked, framed, frame, frame_room, is_next}
-use Rattle.segment_files.specs.Contents.{AreIn, MayFollow, Offset_list, ReadsBody, ReadsFrame}
+use Rattle.segment_files.specs.declared.rule.Rule.{Rule}
+use Rattle.segment_files.specs.Parse.{Numbered, Body, Holds, Follows, body, body_limit, Frame, Framed, Crooked, framed, frame, follows, room}
+use Rattle.segment_files.specs.Contents.{AreIn, MayFollow, Offset_list, ReadsBody, ReadsFrame, last_read}
 use Rattle.segment_files.specs.declared.windows.FrameRead.TheVariants.{Whole as Is_whole, Cut as Is_cut, Damaged as Is_no_frame}
 use Rattle.segment_files.proofs.Bodies.{some_entry}
 use Rattle.segment_files.proofs.Placing.{in_body}
+use Rattle.segment_files.proofs.PuttingDown.{gained_none}
 
 -- a number is the same where more follows
 pub number_ahead : (size : Size) (at : ℕ) (b rest : List ℕ) → at + bytes_of size ≤ length b → number_at size at (b ++ rest) ≡ number_at size at b
@@ -31,12 +33,12 @@ form size long b =
     else if not (fits size) then Crooked 0
     else framed size long b
 
-abbrev pub body_in : ℕ → ℕ → List ℕ → Body
-body_in before size l = body is_next frame_room before (take size (drop 4 l))
+abbrev pub body_in : Follows → ℕ → ℕ → ℕ → List ℕ → Body
+body_in follows room before size l = body follows room before (take size (drop 4 l))
 
-pub frame_form : (before : ℕ) (l : List ℕ) → frame is_next frame_room before l ≡ form (number_at Four 0 l) (length l) (body_in before (number_at Four 0 l) l)
+pub frame_form : (follows : Follows) (room before : ℕ) (l : List ℕ) → frame follows room before l ≡ form (number_at Four 0 l) (length l) (body_in follows room before (number_at Four 0 l) l)
 unfolding frame
-frame_form before l = refl
+frame_form follows room before l = refl
 
 -- by the three tests
 form_few : (size long : ℕ) (b : Body) → long < 4 → form size long b ≡ Crooked long
@@ -71,7 +73,14 @@ size_large size large = ap (λ (t : Bool). nat_le 17 size && t) (lt-leb size bod
     of true = refl
     of false = refl
 
-module _ (before place : ℕ) (behind : List ℕ) where
+module _ (rule : Rule) (base place : ℕ) (behind : List ℕ) (old : Offset_list) where
+  abbrev f : Follows
+  f = follows rule
+
+  -- the index before the first
+  abbrev before : ℕ
+  before = last_read base old
+
   abbrev size : ℕ
   size = number_at Four 0 behind
 
@@ -80,41 +89,35 @@ module _ (before place : ℕ) (behind : List ℕ) where
   at_end is_end is rest may = ap (λ (l : List ℕ). behind ++ l) (may is) ∙ append-nil behind
 
   -- less than a length
-  pub cut_length : (is_end : Bool) (old : Offset_list) → length behind < 4 → ReadsFrame behind is_end before place old old (if is_end then Is_no_frame (length behind) else Is_cut)
-  cut_length true old few = record {
-    more = [];
-    offsets = [];
-    as_many = refl;
-    items = sym (append-nil old);
+  pub cut_length : (is_end : Bool) → length behind < 4 → ReadsFrame rule base behind is_end place old old (if is_end then Is_no_frame (length behind) else Is_cut)
+  cut_length true few = record {
+    gained = gained_none rule base old;
     is = (
       (λ rest may.
-          ap (frame is_next frame_room before) (at_end true refl rest may)
-          ∙ frame_form before behind
-          ∙ form_few size (length behind) (body_in before size behind) few),
+          ap (frame f (room rule) before) (at_end true refl rest may)
+          ∙ frame_form f (room rule) before behind
+          ∙ form_few size (length behind) (body_in f (room rule) before size behind) few),
       omega arith,
     );
   }
-  cut_length false old few = record { more = []; offsets = []; as_many = refl; items = sym (append-nil old); is = (refl, refl, refl) }
+  cut_length false few = record { gained = gained_none rule base old; is = (refl, refl, refl) }
 
   -- less than a body, where the file may go on
-  pub cut_body : (is_end : Bool) (old : Offset_list) → is_end ≡ false → ReadsFrame behind is_end before place old old Is_cut
-  cut_body is_end old is = record { more = []; offsets = []; as_many = refl; items = sym (append-nil old); is = (refl, refl, is) }
+  pub cut_body : (is_end : Bool) → is_end ≡ false → ReadsFrame rule base behind is_end place old old Is_cut
+  cut_body is_end is = record { gained = gained_none rule base old; is = (refl, refl, is) }
 
   module _ (long : 4 ≤ length behind) where
     -- what is behind the gate, where more follows
-    form_ahead : (rest : List ℕ) → frame is_next frame_room before (behind ++ rest) ≡ form size (length (behind ++ rest)) (body_in before size (behind ++ rest))
-    form_ahead rest = frame_form before (behind ++ rest) ∙ ap (λ (k : ℕ). form k (length (behind ++ rest)) (body_in before k (behind ++ rest))) (number_ahead Four 0 behind rest (omega (arith, long)))
+    form_ahead : (rest : List ℕ) → frame f (room rule) before (behind ++ rest) ≡ form size (length (behind ++ rest)) (body_in f (room rule) before size (behind ++ rest))
+    form_ahead rest = frame_form f (room rule) before (behind ++ rest) ∙ ap (λ (k : ℕ). form k (length (behind ++ rest)) (body_in f (room rule) before k (behind ++ rest))) (number_ahead Four 0 behind rest (omega (arith, long)))
 
     more_there : (rest : List ℕ) → 4 ≤ length (behind ++ rest)
     more_there rest = omega (arith, long, length-append behind rest)
 
-    pub no_frame_size : (is_end : Bool) (old : Offset_list) → (size < 17) ⊎ (body_limit < size) → ReadsFrame behind is_end before place old old (Is_no_frame 0)
-    no_frame_size is_end old out = record {
-      more = [];
-      offsets = [];
-      as_many = refl;
-      items = sym (append-nil old);
-      is = ((λ rest may. form_ahead rest ∙ form_size size (length (behind ++ rest)) (body_in before size (behind ++ rest)) (more_there rest) (unfit out)), omega arith);
+    pub no_frame_size : (is_end : Bool) → (size < 17) ⊎ (body_limit < size) → ReadsFrame rule base behind is_end place old old (Is_no_frame 0)
+    no_frame_size is_end out = record {
+      gained = gained_none rule base old;
+      is = ((λ rest may. form_ahead rest ∙ form_size size (length (behind ++ rest)) (body_in f (room rule) before size (behind ++ rest)) (more_there rest) (unfit out)), omega arith);
     }
       where
         unfit : (size < 17) ⊎ (body_limit < size) → fits size ≡ false
@@ -123,8 +126,8 @@ module _ (before place : ℕ) (behind : List ℕ) where
 
     -- A body of which so many bytes are there: all of them, or those up to the end of the file.
     module _ (is_end : Bool) (there : ℕ) (least : 17 ≤ size) (most : size ≤ body_limit) (there_is : there ≡ min size (length behind - 4)) (enough : there < size → is_end ≡ true) where
-      by_body : (rest : List ℕ) → frame is_next frame_room before (behind ++ rest) ≡ framed size (length (behind ++ rest)) (body_in before size (behind ++ rest))
-      by_body rest = form_ahead rest ∙ form_body size (length (behind ++ rest)) (body_in before size (behind ++ rest)) (more_there rest) (size_fits size least most)
+      by_body : (rest : List ℕ) → frame f (room rule) before (behind ++ rest) ≡ framed size (length (behind ++ rest)) (body_in f (room rule) before size (behind ++ rest))
+      by_body rest = form_ahead rest ∙ form_body size (length (behind ++ rest)) (body_in f (room rule) before size (behind ++ rest)) (more_there rest) (size_fits size least most)
 
       -- what is there of the body is all that there is
       all_there : (rest : List ℕ) → MayFollow is_end rest → take size (drop 4 (behind ++ rest)) ≡ take there (drop 4 behind)
@@ -141,16 +144,13 @@ module _ (before place : ℕ) (behind : List ℕ) where
           ∙ ap (λ (k : ℕ). take k (drop 4 behind)) (sym same))
           (cases_lt there size)
 
-      body_there : (rest : List ℕ) → MayFollow is_end rest → body_in before size (behind ++ rest) ≡ body is_next frame_room before (take there (drop 4 behind))
-      body_there rest may = ap (body is_next frame_room before) (all_there rest may)
+      body_there : (rest : List ℕ) → MayFollow is_end rest → body_in f (room rule) before size (behind ++ rest) ≡ body f (room rule) before (take there (drop 4 behind))
+      body_there rest may = ap (body f (room rule) before) (all_there rest may)
 
       -- it breaks
-      pub frame_broken : (old new : Offset_list) (at : ℕ) → ReadsBody (take there (drop 4 behind)) before (place + 4) old new (Some at) → ReadsFrame behind is_end before place old new (Is_no_frame (4 + at))
-      frame_broken old new at r = record {
-        more = r.more;
-        offsets = r.offsets;
-        as_many = r.as_many;
-        items = r.items;
+      pub frame_broken : (new : Offset_list) (at : ℕ) → ReadsBody rule base (take there (drop 4 behind)) (place + 4) old new (Some at) → ReadsFrame rule base behind is_end place old new (Is_no_frame (4 + at))
+      frame_broken new at r = record {
+        gained = r.gained;
         is = (
           (λ rest may. by_body rest ∙ ap (framed size (length (behind ++ rest))) (body_there rest may ∙ r.is.0)),
           (let low = r.is.1 in omega (arith, low, length-take there (drop 4 behind), length-drop 4 behind, long)),
@@ -158,52 +158,47 @@ module _ (before place : ℕ) (behind : List ℕ) where
       }
 
       -- it is entries, and cut by the end of the file
-      frame_short : (old new : Offset_list) → length behind < 4 + size → ReadsBody (take there (drop 4 behind)) before (place + 4) old new None → ReadsFrame behind is_end before place old new (Is_no_frame (length behind))
-      frame_short old new short r =
+      frame_short : (new : Offset_list) → length behind < 4 + size → ReadsBody rule base (take there (drop 4 behind)) (place + 4) old new None → ReadsFrame rule base behind is_end place old new (Is_no_frame (length behind))
+      frame_short new short r =
           let end : is_end ≡ true = enough (omega (arith, there_is, short)) in
           record {
-            more = r.more;
-            offsets = r.offsets;
-            as_many = r.as_many;
-            items = r.items;
+            gained = r.gained;
             is = (
               (λ rest may.
                   by_body rest
                   ∙ ap (framed size (length (behind ++ rest))) (body_there rest may ∙ r.is.0)
-                  ∙ ap (λ (l : List ℕ). if nat_lt (length l) (4 + size) then Crooked (length l) else Framed r.more (4 + size)) (at_end is_end end rest may)
-                  ∙ ap (λ (t : Bool). if t then Crooked (length behind) else Framed r.more (4 + size)) (lt-ltb (length behind) (4 + size) short)),
+                  ∙ ap (λ (l : List ℕ). if nat_lt (length l) (4 + size) then Crooked (length l) else Framed r.gained.more (4 + size)) (at_end is_end end rest may)
+                  ∙ ap (λ (t : Bool). if t then Crooked (length behind) else Framed r.gained.more (4 + size)) (lt-ltb (length behind) (4 + size) short)),
               omega arith,
             );
           }
 
       -- it is entries, and whole
-      frame_whole : (old new : Offset_list) → 4 + size ≤ length behind → ReadsBody (take there (drop 4 behind)) before (place + 4) old new None → ReadsFrame behind is_end before place old new (Is_whole (4 + size))
-      frame_whole old new le r =
+      frame_whole : (new : Offset_list) → 4 + size ≤ length behind → ReadsBody rule base (take there (drop 4 behind)) (place + 4) old new None → ReadsFrame rule base behind is_end place old new (Is_whole (4 + size))
+      frame_whole new le r =
           let same : there ≡ size = omega (arith, there_is, le) in
           let bytes_are : (rest : List ℕ) → take size (drop 4 (behind ++ rest)) ≡ take there (drop 4 behind) =
           λ rest. ap (take size) (drop-append-le 4 behind rest long) ∙ take-append-le size (drop 4 behind) rest (omega (arith, le, length-drop 4 behind)) ∙ ap (λ (k : ℕ). take k (drop 4 behind)) (sym same) in
           record {
-            more = r.more;
-            offsets = r.offsets;
-            as_many = r.as_many;
-            items = r.items;
+            gained = r.gained;
             is = (
               (λ rest.
                   by_body rest
-                  ∙ ap (λ (l : List ℕ). framed size (length (behind ++ rest)) (body is_next frame_room before l)) (bytes_are rest)
+                  ∙ ap (λ (l : List ℕ). framed size (length (behind ++ rest)) (body f (room rule) before l)) (bytes_are rest)
                   ∙ ap (framed size (length (behind ++ rest))) r.is.0
-                  ∙ ap (λ (t : Bool). if t then Crooked (length (behind ++ rest)) else Framed r.more (4 + size)) (le-ltb (length (behind ++ rest)) (4 + size) (omega (arith, le, length-append behind rest)))),
+                  ∙ ap (λ (t : Bool). if t then Crooked (length (behind ++ rest)) else Framed r.gained.more (4 + size)) (le-ltb (length (behind ++ rest)) (4 + size) (omega (arith, le, length-append behind rest)))),
               le,
               omega (arith, most),
-              some_entry is_next frame_room before (take there (drop 4 behind)) r.more (omega (arith, same, length-take there (drop 4 behind), length-drop 4 behind, le, least)) r.is.0,
-              in_body behind before place (length old) there size r.more r.offsets long
-                  (subst (λ (n : ℕ). AreIn (take there (drop 4 behind)) before (place + 4) (length old) r.more r.offsets n) (omega (arith, same, length-take there (drop 4 behind), length-drop 4 behind, le)) r.is.1),
+              some_entry f (room rule) before (take there (drop 4 behind)) r.gained.more (omega (arith, same, length-take there (drop 4 behind), length-drop 4 behind, le, least)) r.is.0,
+              r.is.1,
+              in_body base behind place there size r.gained.more r.gained.offsets long
+                  (subst (λ (n : ℕ). AreIn base (take there (drop 4 behind)) (place + 4) r.gained.more r.gained.offsets n) (omega (arith, same, length-take there (drop 4 behind), length-drop 4 behind, le)) r.is.2),
             );
           }
 
-      pub frame_right : (old new : Offset_list) → ReadsBody (take there (drop 4 behind)) before (place + 4) old new None
-          → ReadsFrame behind is_end before place old new (if nat_lt (length behind) (4 + size) then Is_no_frame (length behind) else Is_whole (4 + size))
-      frame_right old new r = ⊎_elim
-          (λ less. subst (λ (t : Bool). ReadsFrame behind is_end before place old new (if t then Is_no_frame (length behind) else Is_whole (4 + size))) (sym (lt-ltb (length behind) (4 + size) less)) (frame_short old new less r))
-          (λ more. subst (λ (t : Bool). ReadsFrame behind is_end before place old new (if t then Is_no_frame (length behind) else Is_whole (4 + size))) (sym (le-ltb (length behind) (4 + size) more)) (frame_whole old new more r))
+      pub frame_right : (new : Offset_list) → ReadsBody rule base (take there (drop 4 behind)) (place + 4) old new None
+          → ReadsFrame rule base behind is_end place old new (if nat_lt (length behind) (4 + size) then Is_no_frame (length behind) else Is_whole (4 + size))
+      frame_right new r = ⊎_elim
+          (λ less. subst (λ (t : Bool). ReadsFrame rule base behind is_end place old new (if t then Is_no_frame (length behind) else Is_whole (4 + size))) (sym (lt-ltb (length behind) (4 + size) less)) (frame_short new less r))
+          (λ more. subst (λ (t : Bool). ReadsFrame rule base behind is_end place old new (if t then Is_no_frame (length behind) else Is_whole (4 + size))) (sym (le-ltb (length behind) (4 + size) more)) (frame_whole new more r))
           (cases_lt (length behind) (4 + size))

@@ -8,6 +8,7 @@ pub mod Indexes
 pub mod Standing
 pub mod Extending
 pub mod Placing
+pub mod PuttingDown
 pub mod Framing
 pub mod Walks
 pub mod Writing

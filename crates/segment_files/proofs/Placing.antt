@@ -1,12 +1,10 @@
 -- Where entries stand that are read one behind the other.
-use Rattle.std.proofs.Common.{◌≡◌, ℕ, suc, refl, ◌+◌, ◌-◌, ◌<◌, ◌≤◌, List, [], ◌∷◌, ◌++◌, All, length, take, drop, sym, ap, subst, ◌∙◌, arith, append_assoc, length-append, length-drop, take-append-drop}
+use Rattle.std.proofs.Common.{◌≡◌, ℕ, suc, refl, ◌+◌, ◌-◌, ◌<◌, ◌≤◌, List, [], ◌∷◌, ◌++◌, length, take, drop, sym, ap, subst, ◌∙◌, arith, append_assoc, length-append, length-drop, take-append-drop}
 use Rattle.std.proofs.lemmas.List.{drop-drop, take-append-le, drop-append-le}
-use Rattle.std.proofs.lemmas.List.Elements.{All-push, All-weaker}
 use Rattle.host_types.specs.declared.entry.Entry.{Entry}
 use Rattle.entry_codec.specs.Spelled.{IsSpelledBy}
-use Rattle.offset_index.specs.Indexed.{MayFollow}
 use Rattle.segment_files.specs.Parse.{Numbered}
-use Rattle.segment_files.specs.Contents.{AreAt, AreBelow, AreIn, HasAt, Offset_list}
+use Rattle.segment_files.specs.Contents.{AreAt, AreIn, HasAt, Offset_list}
 
 -- THE BYTES OF A FILE
 
@@ -65,49 +63,31 @@ module _ (base : ℕ) (file : List ℕ) where
 
 -- ENTRIES IN BYTES, in whatever file they stand
 
-pub in_none : (bytes : List ℕ) (before place count : ℕ) → AreIn bytes before place count [] [] 0
-in_none bytes before place count base file is has = omega arith
+module _ (base : ℕ) where
+  pub in_none : (bytes : List ℕ) (place : ℕ) → AreIn base bytes place [] [] 0
+  in_none bytes place file has = omega arith
 
--- the first one
-pub in_one : (bytes : List ℕ) (before place count size : ℕ) (entry : Entry) → size ≤ length bytes → 1 ≤ size → IsSpelledBy (take size bytes) (before + 1) entry
-    → AreIn bytes before place count ((before + 1, entry) ∷ []) ((count, place) ∷ []) size
-in_one bytes before place count size entry le some by base file is has = at_one base file bytes place size (before + 1) count entry has le some is by
+  -- the first one
+  pub in_one : (bytes : List ℕ) (place size index : ℕ) (entry : Entry) → base ≤ index → size ≤ length bytes → 1 ≤ size → IsSpelledBy (take size bytes) index entry
+      → AreIn base bytes place ((index, entry) ∷ []) ((index - base, place) ∷ []) size
+  in_one bytes place size index entry low le some by file has = at_one base file bytes place size index (index - base) entry has le some (omega (arith, low)) by
 
-module _ (bytes : List ℕ) (before place count : ℕ) (es : Numbered) (os : Offset_list) (a : ℕ) (first : AreIn bytes before place count es os a) where
-  -- and those that follow
-  pub in_more : (k n b : ℕ) (fs : Numbered) (ps : Offset_list) → a ≤ length bytes → k + count ≡ before + n → AreIn (drop a bytes) k (place + a) n fs ps b → AreIn bytes before place count (es ++ fs) (os ++ ps) (a + b)
-  in_more k n b fs ps le same behind base file is has =
-      subst (λ (to : ℕ). AreAt base file place (es ++ fs) (os ++ ps) to) (omega arith)
-      (at_join base file place (place + a) (place + a + b) es fs os ps (first base file is has) (behind base file (omega (arith, is, same)) (at_behind file bytes place a has le)))
+  module _ (bytes : List ℕ) (place : ℕ) (es : Numbered) (os : Offset_list) (a : ℕ) (first : AreIn base bytes place es os a) where
+    -- and those that follow
+    pub in_more : (b : ℕ) (fs : Numbered) (ps : Offset_list) → a ≤ length bytes → AreIn base (drop a bytes) (place + a) fs ps b → AreIn base bytes place (es ++ fs) (os ++ ps) (a + b)
+    in_more b fs ps le behind file has =
+        subst (λ (to : ℕ). AreAt base file place (es ++ fs) (os ++ ps) to) (omega arith)
+        (at_join base file place (place + a) (place + a + b) es fs os ps (first file has) (behind file (at_behind file bytes place a has le)))
 
-  -- those of the frame behind an open gate
-  pub in_frame : (k n b : ℕ) (fs : Numbered) (ps : Offset_list) → a < length bytes → k + count ≡ before + n → AreIn (drop (a + 1) bytes) k (place + a + 1) n fs ps b → AreIn bytes before place count (es ++ fs) (os ++ ps) (a + (1 + b))
-  in_frame k n b fs ps lt same behind base file is has =
-      let here = subst (λ (p : ℕ). HasAt file p (drop (a + 1) bytes)) {x = place + (a + 1)} {y = place + a + 1} (omega arith) (at_behind file bytes place (a + 1) has (omega (arith, lt))) in
-      subst (λ (to : ℕ). AreAt base file place (es ++ fs) (os ++ ps) to) (omega arith)
-      (at_join base file place (place + a + 1) (place + a + 1 + b) es fs os ps (at_to base file place (place + a) (place + a + 1) es os (omega arith) (first base file is has)) (behind base file (omega (arith, is, same)) here))
+    -- those of the frame behind an open gate
+    pub in_frame : (b : ℕ) (fs : Numbered) (ps : Offset_list) → a < length bytes → AreIn base (drop (a + 1) bytes) (place + a + 1) fs ps b → AreIn base bytes place (es ++ fs) (os ++ ps) (a + (1 + b))
+    in_frame b fs ps lt behind file has =
+        let here = subst (λ (p : ℕ). HasAt file p (drop (a + 1) bytes)) {x = place + (a + 1)} {y = place + a + 1} (omega arith) (at_behind file bytes place (a + 1) has (omega (arith, lt))) in
+        subst (λ (to : ℕ). AreAt base file place (es ++ fs) (os ++ ps) to) (omega arith)
+        (at_join base file place (place + a + 1) (place + a + 1 + b) es fs os ps (at_to base file place (place + a) (place + a + 1) es os (omega arith) (first file has)) (behind file here))
 
--- the body of a frame
-pub in_body : (behind : List ℕ) (before place count k n : ℕ) (es : Numbered) (os : Offset_list) → 4 ≤ length behind → AreIn (take k (drop 4 behind)) before (place + 4) count es os n → AreIn behind before place count es os (4 + n)
-in_body behind before place count k n es os le inner base file is has =
-    subst (λ (to : ℕ). AreAt base file place es os to) (omega arith)
-    (at_from base file place (place + 4) (place + 4 + n) es os (omega arith) (inner base file is (at_front file (drop 4 behind) (place + 4) k (at_behind file behind place 4 has le))))
-
--- OFFSETS, over whatever disk
-
-pub below_up : (os : Offset_list) (a b : ℕ) → a ≤ b → AreBelow os a → AreBelow os b
-below_up os a b le = All-weaker (λ (p : ℕ × ℕ). (p.0 < length os) × (p.1 < a)) (λ (p : ℕ × ℕ). (p.0 < length os) × (p.1 < b)) (λ p it. (it.0, (let at = it.1 in omega (arith, at, le)))) os
-
--- with one more
-pub below_more : (os new : Offset_list) (place size : ℕ) → new ≡ os ++ (length os, place) ∷ [] → 1 ≤ size → AreBelow os place → AreBelow new (place + size)
-below_more os new place size is some below =
-    let count : length new ≡ length os + 1 = ap length is ∙ length-append os ((length os, place) ∷ []) in
-    let P : ℕ × ℕ → Type 0 = λ p. (p.0 < length new) × (p.1 < place + size) in
-    subst (All P) (sym is)
-    (All-push P os (length os, place)
-    (All-weaker (λ (p : ℕ × ℕ). (p.0 < length os) × (p.1 < place)) P (λ p it. ((let at = it.0 in omega (arith, at, count)), (let at = it.1 in omega (arith, at)))) os below)
-    (omega (arith, count), omega (arith, some)))
-
--- the next offset may be put down
-pub may_follow : (os : Offset_list) (place : ℕ) → AreBelow os place → MayFollow os (length os, place)
-may_follow os place below d some = below (length os - 1) d (omega (arith, some))
+  -- the body of a frame
+  pub in_body : (behind : List ℕ) (place k n : ℕ) (es : Numbered) (os : Offset_list) → 4 ≤ length behind → AreIn base (take k (drop 4 behind)) (place + 4) es os n → AreIn base behind place es os (4 + n)
+  in_body behind place k n es os le inner file has =
+      subst (λ (to : ℕ). AreAt base file place es os to) (omega arith)
+      (at_from base file place (place + 4) (place + 4 + n) es os (omega arith) (inner file (at_front file (drop 4 behind) (place + 4) k (at_behind file behind place 4 has le))))

@@ -1,5 +1,5 @@
 -- What a file is, by its first bytes and its frames.
-use Rattle.std.proofs.Common.{◌≡◌, ℕ, ◌+◌, ◌-◌, ◌≤◌, true, false, List, length, take, drop, Option, Some, None, Result, Err, IsErrOf, refl, sym, ap, subst, ◌∙◌, arith}
+use Rattle.std.proofs.Common.{◌≡◌, ℕ, ◌+◌, ◌-◌, ◌≤◌, Bool, true, false, if◌then◌else◌, List, length, take, drop, None, Result, Err, IsErrOf, refl, sym, ap, subst, ◌∙◌, arith}
 use Rattle.disk_model.specs.declared.file_id.FileId.{FileId}
 use Rattle.segment_files.specs.declared.descriptor.Descriptor.{Descriptor}
 use Rattle.segment_files.specs.declared.reading.FileFault.{FileFault}
@@ -8,45 +8,129 @@ use Rattle.segment_files.specs.declared.reading.Contents.TheVariants.{Open}
 use Rattle.segment_files.specs.declared.reading.Found.TheVariants.{Part as Is_part}
 use Rattle.segment_files.specs.declared.reading.Frames.TheVariants.{End, Damaged as Are_damaged}
 use Rattle.segment_files.specs.Files.{is_open}
-use Rattle.segment_files.specs.Numbers.{Four, number_at}
-use Rattle.segment_files.specs.Parse.{Numbered, Part, Found, Closed, Whole, Damaged, Walk, Ends, Fails, appended_walk, appended_part, described, descriptor_fields, first_wrong, parse}
-use Rattle.segment_files.specs.Contents.{AreAt, Offset_list, appended_descriptor, HasFrames, IsContents, IsFound, IsOpened, IsNoDamage, IsTrueFault, HasFileCause}
+use Rattle.segment_files.specs.Numbers.{Four, Eight, number_at}
+use Rattle.segment_files.specs.declared.rule.Rule.{Rule}
+use Rattle.segment_files.specs.Parse.{Numbered, Part, Found, Closed, Whole, Damaged, Walk, Ends, Fails, Appended, Rewritten, walk, rule_of, part_of, appended_part, rewritten_part, is_rewritten, last_place, descriptor_fields, first_wrong, parse}
+use Rattle.segment_files.specs.Contents.{AreAt, Fills, Offset_list, appended_descriptor, rewritten_descriptor, descriptor_in, rule_by, last_by, HasFrames, IsContents, IsFound, IsOpened, IsNoDamage, IsTrueFault, HasFileCause}
 use Rattle.offset_index.specs.Indexed.{Indexed}
 use Rattle.segment_files.proofs.Placing.{at_length}
 use Rattle.segment_files.proofs.Scanning.{good_head}
 
-module _ (id : FileId) (bytes : List ℕ) (is : is_open bytes ≡ true) (right : first_wrong (descriptor_fields id) (take 64 bytes) ≡ None) where
-  -- frames that aren't right
-  pub bad_frames : (offsets : Offset_list) (at : ℕ) → HasFrames bytes id.base offsets (Are_damaged at) → parse id bytes ≡ Damaged at
-  bad_frames offsets at fails =
-      good_head id bytes is right
-      ∙ ap (appended_part id (take 64 bytes)) fails.1
-      ∙ ap (λ (k : ℕ). Damaged k) (let le = fails.0 in omega (arith, le))
+-- the rule of what was read is that of the file
+pub rule_read : (id : FileId) (head : List ℕ) (descriptor : Descriptor) → descriptor ≡ descriptor_in id head → rule_by descriptor ≡ rule_of head
+rule_read id head descriptor is = ap rule_by is ∙ by (is_rewritten head) refl
+  where
+    by : (t : Bool) → is_rewritten head ≡ t → rule_by (descriptor_in id head) ≡ rule_of head
+    by true t_is = ap (λ (x : Bool). rule_by (if x then rewritten_descriptor id head else appended_descriptor id (number_at Four 56 head))) t_is ∙ sym (ap (λ (x : Bool). if x then Rewritten (number_at Eight last_place head) (number_at Eight 48 head) else Appended) t_is)
+    by false t_is = ap (λ (x : Bool). rule_by (if x then rewritten_descriptor id head else appended_descriptor id (number_at Four 56 head))) t_is ∙ sym (ap (λ (x : Bool). if x then Rewritten (number_at Eight last_place head) (number_at Eight 48 head) else Appended) t_is)
 
-  good_part : (entries : Numbered) (gate : ℕ) → 64 ≤ gate → appended_walk 0 (id.base - 1) (drop 64 bytes) ≡ Ends entries (gate - 64)
-      → parse id bytes ≡ Whole (record { id = id; rewritten = false; last = id.base - 1 + length entries; cut = 0; floor = 0; size = number_at Four 56 (take 64 bytes); entries = entries; gate = gate })
-  good_part entries gate le walk =
-      let place : 64 + (gate - 64) ≡ gate = omega (arith, le) in
+module _ (id : FileId) (bytes : List ℕ) (is : is_open bytes ≡ true) (right : first_wrong (descriptor_fields id (take 64 bytes)) (take 64 bytes) ≡ None) where
+  abbrev head : List ℕ
+  head = take 64 bytes
+
+  by_kind : (t : Bool) (w : Walk) → is_rewritten head ≡ t → part_of id head w ≡ (if t then rewritten_part id head w else appended_part id head w)
+  by_kind t w t_is = ap (λ (x : Bool). if x then rewritten_part id head w else appended_part id head w) t_is
+
+  -- frames that aren't right
+  pub bad_frames : (rule : Rule) (offsets : Offset_list) (at : ℕ) → rule ≡ rule_of head → HasFrames rule bytes id.base offsets (Are_damaged at) → parse id bytes ≡ Damaged at
+  bad_frames rule offsets at rule_is fails =
       good_head id bytes is right
-      ∙ ap (appended_part id (take 64 bytes)) walk
-      ∙ ap (λ (k : ℕ). Whole (record { id = id; rewritten = false; last = id.base - 1 + length entries; cut = 0; floor = 0; size = number_at Four 56 (take 64 bytes); entries = entries; gate = k })) place
+      ∙ ap (λ (r : Rule). part_of id head (walk r 0 (id.base - 1) (drop 64 bytes))) (sym rule_is)
+      ∙ ap (part_of id head) fails.1
+      ∙ either (is_rewritten head) refl
+      ∙ ap (λ (k : ℕ). Damaged k) (let le = fails.0 in omega (arith, le))
+    where
+      either : (t : Bool) → is_rewritten head ≡ t → part_of id head (Fails (at - 64)) ≡ Damaged (64 + (at - 64))
+      either true t_is = by_kind true (Fails (at - 64)) t_is
+      either false t_is = by_kind false (Fails (at - 64)) t_is
+
+  module _ (gate : ℕ) (entries : Numbered) where
+    abbrev as_appended : Part
+    as_appended = record { id = id; rewritten = false; last = id.base - 1 + length entries; cut = 0; floor = 0; size = number_at Four 56 head; entries = entries; gate = gate }
+
+    abbrev as_rewritten : Part
+    as_rewritten = record {
+      id = id;
+      rewritten = true;
+      last = number_at Eight last_place head;
+      cut = number_at Eight 32 head;
+      floor = number_at Eight 40 head;
+      size = 0;
+      entries = entries;
+      gate = gate;
+    }
+
+    -- what the file is, by what wrote it
+    is_whole : (t : Bool) → is_rewritten head ≡ t → 64 ≤ gate → walk (rule_of head) 0 (id.base - 1) (drop 64 bytes) ≡ Ends entries (gate - 64) → parse id bytes ≡ Whole (if t then as_rewritten else as_appended)
+    is_whole t t_is le walks = good_head id bytes is right ∙ ap (part_of id head) walks ∙ by_kind t (Ends entries (gate - 64)) t_is ∙ placed t
+      where
+        place : 64 + (gate - 64) ≡ gate
+        place = omega (arith, le)
+
+        placed : (u : Bool) → (if u then rewritten_part id head (Ends entries (gate - 64)) else appended_part id head (Ends entries (gate - 64))) ≡ Whole (if u then as_rewritten else as_appended)
+        placed true = ap (λ (k : ℕ). Whole (record {
+          id = id;
+          rewritten = true;
+          last = number_at Eight last_place head;
+          cut = number_at Eight 32 head;
+          floor = number_at Eight 40 head;
+          size = 0;
+          entries = entries;
+          gate = k;
+        })) place
+        placed false = ap (λ (k : ℕ). Whole (record { id = id; rewritten = false; last = id.base - 1 + length entries; cut = 0; floor = 0; size = number_at Four 56 head; entries = entries; gate = k })) place
 
   -- frames that are
-  pub is_part : (offsets : Offset_list) (gate : ℕ) → HasFrames bytes id.base offsets (End gate) → (descriptor : Descriptor) → descriptor ≡ appended_descriptor id (number_at Four 56 (take 64 bytes))
+  pub is_part : (offsets : Offset_list) (gate : ℕ) (rule : Rule) → rule ≡ rule_of head → HasFrames rule bytes id.base offsets (End gate) → (descriptor : Descriptor) → descriptor ≡ descriptor_in id head
       → (part : Part) × (parse id bytes ≡ Whole part) × (part.id ≡ id) × IsOpened bytes part descriptor offsets gate
-  is_part offsets gate (entries, le, walk, laid) descriptor described =
-      let part : Part = record { id = id; rewritten = false; last = id.base - 1 + length entries; cut = 0; floor = 0; size = number_at Four 56 (take 64 bytes); entries = entries; gate = gate } in
-      (part, good_part entries gate le walk, refl, record { described = described; last = refl; gate_is = refl; offsets_are = laid })
+  is_part offsets gate rule rule_is (entries, le, walks, fills, laid) descriptor described = by (is_rewritten head) refl
+    where
+      told : walk (rule_of head) 0 (id.base - 1) (drop 64 bytes) ≡ Ends entries (gate - 64)
+      told = ap (λ (r : Rule). walk r 0 (id.base - 1) (drop 64 bytes)) (sym rule_is) ∙ walks
+
+      kind : (t : Bool) → is_rewritten head ≡ t → descriptor ≡ (if t then rewritten_descriptor id head else appended_descriptor id (number_at Four 56 head))
+      kind t t_is = described ∙ ap (λ (x : Bool). if x then rewritten_descriptor id head else appended_descriptor id (number_at Four 56 head)) t_is
+
+      by : (t : Bool) → is_rewritten head ≡ t → (part : Part) × (parse id bytes ≡ Whole part) × (part.id ≡ id) × IsOpened bytes part descriptor offsets gate
+      by true t_is =
+          let d = kind true t_is in
+          let many : length entries ≡ number_at Eight 48 head = subst (λ (r : Rule). Fills r (length entries)) (rule_is ∙ ap (λ (x : Bool). if x then Rewritten (number_at Eight last_place head) (number_at Eight 48 head) else Appended) t_is) fills in
+          (
+            as_rewritten gate entries,
+            is_whole gate entries true t_is le told,
+            refl,
+            record {
+              described = d ∙ ap (λ (k : ℕ). record {
+                rewritten = true;
+                generation = id.generation;
+                base = id.base;
+                last = number_at Eight last_place head;
+                cut = number_at Eight 32 head;
+                floor = number_at Eight 40 head;
+                count = k;
+                size = 0;
+              }) (sym many);
+              last = sym (ap (λ (x : Descriptor). last_by x (length entries)) d);
+              gate_is = refl;
+              offsets_are = laid;
+            },
+          )
+      by false t_is =
+          let d = kind false t_is in (
+            as_appended gate entries,
+            is_whole gate entries false t_is le told,
+            refl,
+            record { described = d; last = sym (ap (λ (x : Descriptor). last_by x (length entries)) d); gate_is = refl; offsets_are = laid },
+          )
 
 -- what was read of a part is told of it
-pub part_found : (id : FileId) (file : List ℕ) (found : Found) (descriptor : Descriptor) (offsets : Indexed) (gate count : ℕ) → IsContents id file found (Open descriptor offsets gate) → count ≡ length offsets.items
-    → IsFound file (Is_part (record { descriptor = descriptor; last = id.base - 1 + count; gate = gate; offsets = offsets })) found
-part_found id file Closed descriptor offsets gate count contents count_is = absurd contents
-part_found id file (Damaged place) descriptor offsets gate count contents count_is = absurd contents
-part_found id file (Whole part) descriptor offsets gate count (id_is, opened) count_is =
-    let many = at_length part.id.base file 64 gate part.entries offsets.items opened.offsets_are in
-    let base : part.id.base ≡ id.base = ap (λ (i : FileId). i.base) id_is in (
-      record { descriptor = opened.described; last = omega (arith, count_is, many, base, opened.last); gate = sym opened.gate_is },
+pub part_found : (id : FileId) (file : List ℕ) (found : Found) (descriptor : Descriptor) (offsets : Indexed) (gate last count : ℕ) → IsContents id file found (Open descriptor offsets gate) → count ≡ length offsets.items → last ≡ last_by descriptor count
+    → IsFound file (Is_part (record { descriptor = descriptor; last = last; gate = gate; offsets = offsets })) found
+part_found id file Closed descriptor offsets gate last count contents count_is last_is = absurd contents
+part_found id file (Damaged place) descriptor offsets gate last count contents count_is last_is = absurd contents
+part_found id file (Whole part) descriptor offsets gate last count (id_is, opened) count_is last_is =
+    let many : count ≡ length part.entries = count_is ∙ at_length part.id.base file 64 gate part.entries offsets.items opened.offsets_are in (
+      record { descriptor = opened.described; last = last_is ∙ ap (last_by descriptor) many ∙ sym opened.last; gate = sym opened.gate_is },
       subst (λ (k : ℕ). AreAt part.id.base file 64 part.entries offsets.items k) (sym opened.gate_is) opened.offsets_are,
     )
 

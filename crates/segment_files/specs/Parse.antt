@@ -1,13 +1,15 @@
 -- What the bytes of one file are: closed, a part of a log, or damaged at a place.
 -- Each place is counted from the start of what is read, and each level adds its own.
-use Rattle.std.specs.Prelude.{◌+◌, ◌-◌, ℕ, zero, suc, Bool, false, not, ◌&&◌, nat_eq, nat_lt, nat_le, if◌then◌else◌, List, [], ◌∷◌, ◌++◌, length, take, drop, Option, Some, None}
+use Rattle.std.specs.Prelude.{◌+◌, ◌-◌, ℕ, zero, suc, min, Bool, true, false, not, ◌&&◌, nat_eq, nat_lt, nat_le, if◌then◌else◌, List, [], ◌∷◌, ◌++◌, length, take, drop, Option, Some, None}
 use Rattle.host_types.specs.declared.entry.Entry.{Entry}
 use Rattle.disk_model.specs.declared.file_id.FileId.{FileId}
 use Rattle.segment_files.specs.Files.{is_open}
-use Rattle.host_types.specs.Limits.{last_limit}
+use Rattle.host_types.specs.Limits.{index_limit, last_limit}
 use Rattle.entry_codec.specs.Reading.{Spelling, Spells, Spoils, spelling}
 use Rattle.segment_files.specs.declared.numbers.Size.{Size}
 use Rattle.segment_files.specs.declared.descriptor.Field.{Field}
+use Rattle.segment_files.specs.declared.rule.Rule.{Rule}
+pub use Rattle.segment_files.specs.declared.rule.Rule.TheVariants.{Appended, Rewritten}
 use Rattle.segment_files.specs.Numbers.{One, Four, Eight, bytes_of, number_at}
 
 -- entries with their indexes
@@ -68,10 +70,53 @@ frame follows room before bytes =
     else if not (nat_le 17 size && nat_le size body_limit) then Crooked 0
     else framed size (length bytes) (body follows room before (take size (drop 4 bytes)))
 
--- THE FRAMES of an appended file, up to the first gate that isn't open.
+-- THE RULE of a file: which entries follow one another in it, and where its frames end. A file that is appended to has each at the next
+-- index, up to a gate that isn't open. A file that a compaction wrote has so many, at rising indexes up to a last one.
+
+-- each index is the one after
+abbrev pub is_next : Follows
+is_next before index = nat_eq index (before + 1) && nat_le index last_limit
+
+-- each is above the one before, up to this one
+abbrev pub rises_to : ℕ → Follows
+rises_to last before index = nat_lt before index && nat_le index last
+
+abbrev pub follows : Rule → Follows
+follows Appended = is_next
+follows (Rewritten last left) = rises_to last
+
+-- the greatest number of entries of a frame
+abbrev pub frame_room : ℕ
+frame_room = 64
+
+-- how many entries may stand in the next frame
+abbrev pub room : Rule → ℕ
+room Appended = frame_room
+room (Rewritten last left) = min frame_room left
+
+-- whether all entries were read
+abbrev pub is_full : Rule → Bool
+is_full Appended = false
+is_full (Rewritten last left) = nat_eq left 0
+
+-- the rule behind so many entries
+abbrev pub behind : Rule → ℕ → Rule
+behind Appended count = Appended
+behind (Rewritten last left) count = Rewritten last (left - count)
+
+-- the index of the last of these entries, or the one before them
+abbrev pub last_index : ℕ → Numbered → ℕ
+last_index before [] = before
+last_index before (e ∷ entries) = last_index e.0 entries
+
+abbrev pub index_behind : Rule → ℕ → Numbered → ℕ
+index_behind Appended before entries = before + length entries
+index_behind (Rewritten last left) before entries = last_index before entries
+
+-- THE FRAMES of a file.
 
 pub data Walk : Type 0 where
-  -- the entries, and the place of that gate
+  -- the entries, and the place behind their frames
   Ends : Numbered → ℕ → Walk
   Fails : ℕ → Walk
 
@@ -88,23 +133,29 @@ abbrev pub go_on : Frame → (Numbered → ℕ → Walk) → Walk
 go_on (Crooked place) rest = Fails (suc place)
 go_on (Framed entries size) rest = behind_frame entries (rest entries size)
 
--- how many entries may stand in a frame
-abbrev pub frame_room : ℕ
-frame_room = 64
+-- at a gate that isn't open
+abbrev pub at_shut : Rule → Walk
+at_shut Appended = Ends [] 0
+at_shut (Rewritten last left) = Fails 0
 
--- each index is the one after
-abbrev pub is_next : Follows
-is_next before index = nat_eq index (before + 1) && nat_le index last_limit
+-- in place of a gate
+abbrev pub at_gate : Rule → Walk → Walk
+at_gate rule otherwise = if is_full rule then Ends [] 0 else otherwise
 
 -- So many bytes are passed first: those of the frame before. The recursion is on the bytes.
-unfoldable pub appended_walk : ℕ → ℕ → List ℕ → Walk
-appended_walk skip before [] = Fails 0
-appended_walk (suc skip) before (b ∷ bytes) = behind_byte (appended_walk skip before bytes)
-appended_walk zero before (gate ∷ bytes) =
-    if nat_eq gate 1 then go_on (frame is_next frame_room before bytes) (λ entries size. appended_walk size (before + length entries) bytes)
-    else Ends [] 0
+unfoldable pub walk : Rule → ℕ → ℕ → List ℕ → Walk
+walk rule (suc skip) before [] = Fails 0
+walk rule (suc skip) before (b ∷ bytes) = behind_byte (walk rule skip before bytes)
+walk rule zero before [] = at_gate rule (Fails 0)
+walk rule zero before (gate ∷ bytes) =
+    at_gate rule
+    (if nat_eq gate 1 then go_on (frame (follows rule) (room rule) before bytes) (λ entries size. walk (behind rule (length entries)) size (index_behind rule before entries) bytes)
+    else at_shut rule)
 
--- THE DESCRIPTOR: its fields in order, each with the numbers that it may have.
+abbrev pub appended_walk : ℕ → ℕ → List ℕ → Walk
+appended_walk = walk Appended
+
+-- THE DESCRIPTOR: its fields in order, each with the numbers that it may have. What later ones may have is told by the numbers before.
 
 abbrev pub is_right : Field → ℕ → Bool
 is_right f n = nat_le f.least n && nat_le n f.most
@@ -124,6 +175,22 @@ first_wrong (f ∷ fields) bytes = elim (wrong_at f bytes) [ None ↦ first_wron
 abbrev pub exactly : ℕ → Size → ℕ → Field
 exactly at size n = record { at = at; size = size; least = n; most = n }
 
+-- a number that only a compaction writes, between these two
+abbrev pub in_rewritten : Bool → ℕ → ℕ → ℕ → Field
+in_rewritten rewritten at least most = record { at = at; size = Eight; least = if rewritten then least else 0; most = if rewritten then most else 0 }
+
+-- after how many entries the next file is begun, which only a file has that is appended to
+abbrev pub size_field : Bool → Field
+size_field rewritten = record { at = 56; size = Four; least = if rewritten then 0 else 2; most = if rewritten then 0 else 65536 }
+
+-- a number, or 0 where it isn't whole
+abbrev pub number_or_zero : Size → ℕ → List ℕ → ℕ
+number_or_zero size at bytes = if nat_lt (length bytes) (at + bytes_of size) then 0 else number_at size at bytes
+
+-- whether a compaction wrote the file
+abbrev pub is_rewritten : List ℕ → Bool
+is_rewritten head = nat_eq (number_or_zero One 2 head) 1
+
 -- `CCLG`
 abbrev pub mark : ℕ
 mark = 1128483911
@@ -132,21 +199,28 @@ mark = 1128483911
 abbrev pub base_place : ℕ
 base_place = 16
 
-unfoldable pub descriptor_fields : FileId → List Field
-descriptor_fields id =
+-- where the last index stands
+abbrev pub last_place : ℕ
+last_place = 24
+
+abbrev pub fields_by : FileId → Bool → ℕ → List Field
+fields_by id rewritten last =
     exactly 1 One 1
-    ∷ exactly 2 One 0
+    ∷ record { at = 2; size = One; least = 0; most = 1 }
     ∷ exactly 3 One 0
     ∷ exactly 4 Four mark
     ∷ exactly 8 Eight id.generation
     ∷ exactly base_place Eight id.base
-    ∷ exactly 24 Eight 0
-    ∷ exactly 32 Eight 0
-    ∷ exactly 40 Eight 0
-    ∷ exactly 48 Eight 0
-    ∷ record { at = 56; size = Four; least = 2; most = 65536 }
+    ∷ in_rewritten rewritten last_place id.base index_limit
+    ∷ in_rewritten rewritten 32 0 index_limit
+    ∷ in_rewritten rewritten 40 0 index_limit
+    ∷ in_rewritten rewritten 48 0 (last + 1 - id.base)
+    ∷ size_field rewritten
     ∷ exactly 60 Four 0
     ∷ []
+
+unfoldable pub descriptor_fields : FileId → List ℕ → List Field
+descriptor_fields id head = fields_by id (is_rewritten head) (number_or_zero Eight last_place head)
 
 -- A PART of a log, as one file has it.
 pub record Part : Type 0 where
@@ -155,10 +229,10 @@ pub record Part : Type 0 where
   pub last : ℕ
   pub cut : ℕ
   pub floor : ℕ
-  -- the number of entries after which the next file is begun
+  -- the number of entries after which the next file is begun, or 0
   pub size : ℕ
   pub entries : Numbered
-  -- the place of the first gate that isn't open
+  -- the place of the first gate that isn't open, or behind the last frame of a file that a compaction wrote
   pub gate : ℕ
 
 pub data Found : Type 0 where
@@ -179,13 +253,33 @@ appended_part id head (Ends entries gate) = Whole (record {
   gate = 64 + gate;
 })
 
+abbrev pub rewritten_part : FileId → List ℕ → Walk → Found
+rewritten_part id head (Fails place) = Damaged (64 + place)
+rewritten_part id head (Ends entries gate) = Whole (record {
+  id = id;
+  rewritten = true;
+  last = number_at Eight last_place head;
+  cut = number_at Eight 32 head;
+  floor = number_at Eight 40 head;
+  size = 0;
+  entries = entries;
+  gate = 64 + gate;
+})
+
+-- the rule that a descriptor tells
+abbrev pub rule_of : List ℕ → Rule
+rule_of head = if is_rewritten head then Rewritten (number_at Eight last_place head) (number_at Eight 48 head) else Appended
+
+abbrev pub part_of : FileId → List ℕ → Walk → Found
+part_of id head w = if is_rewritten head then rewritten_part id head w else appended_part id head w
+
 abbrev pub described : FileId → List ℕ → List ℕ → Option ℕ → Found
 described id head frames (Some place) = Damaged place
-described id head frames None = appended_part id head (appended_walk 0 (id.base - 1) frames)
+described id head frames None = part_of id head (walk (rule_of head) 0 (id.base - 1) frames)
 
 -- what a file of this id is by its first 64 bytes and what stands behind them
 unfoldable pub parse_open : FileId → List ℕ → List ℕ → Found
-parse_open id head frames = described id head frames (first_wrong (descriptor_fields id) head)
+parse_open id head frames = described id head frames (first_wrong (descriptor_fields id head) head)
 
 abbrev pub parse : FileId → List ℕ → Found
 parse id bytes = if is_open bytes then parse_open id (take 64 bytes) (drop 64 bytes) else Closed

@@ -1,16 +1,19 @@
 // The first 64 bytes of a file.
-ghost use Rattle.std.specs.Prelude.{◌≡◌, ◌+◌, ◌≤◌, length, Some, None, IfOk, IfErr};
-ghost use Rattle.disk_model.specs.Image.{written};
-ghost use Rattle.segment_files.specs.Parse.{descriptor_fields, exactly, first_wrong, is_right, wrong_at};
-ghost use Rattle.segment_files.specs.Numbers.{number_at};
-ghost use Rattle.segment_files.specs.Contents.{appended_descriptor, descriptor_bytes};
+ghost use Rattle.std.specs.Prelude.{◌≡◌, ◌+◌, ◌≤◌, ◌<◌, ◌^◌, false, length, Some, None, IfOk, IfErr};
+ghost use Rattle.disk_model.specs.Image.{IsFileId, written};
+ghost use Rattle.segment_files.specs.Parse.{descriptor_fields, exactly, fields_by, first_wrong, in_rewritten, is_right, is_rewritten, number_or_zero, size_field, wrong_at};
+ghost use Rattle.segment_files.specs.Contents.{HasRule, appended_descriptor, descriptor_bytes, descriptor_in, last_by, rewritten_descriptor, rule_by};
 
-use crate::numbers::{Size, number_in, u32_at};
+use crate::numbers::{Size, number_in, u32_at, u64_at};
+use crate::rule::Rule;
 use disk_model::FileId;
 use host_types::Index;
 
 /// `CCLG`
 const MARK: u64 = 0x43434c47;
+
+/// The greatest index.
+const INDEX_LIMIT: u64 = 281474976710655;
 
 /// The first bytes of a file whose gate is open say what it holds (docs/format.md).
 #[derive(Clone, Copy, Debug, PartialEq, Eq)]
@@ -84,27 +87,73 @@ impl Field {
     }
 }
 
-/// The fields behind the gate of a file with this id that is appended to, in their order.
-fn fields_of(id: FileId) -> [Field; 12]
-    ensures { result ≡ descriptor_fields id }
+/// A number that only a compaction writes, between these two.
+fn in_rewritten(rewritten: bool, at: usize, least: u64, most: u64) -> Field
+    ensures { result ≡ in_rewritten rewritten at least most }
+{
+    let (least, most) = if rewritten { (least, most) } else { (0, 0) };
+    Field {
+        at,
+        size: Size::Eight,
+        least,
+        most,
+    }
+}
+
+/// After how many entries the next file is begun, which only a file has that is appended to.
+fn size_field(rewritten: bool) -> Field
+    ensures { result ≡ size_field rewritten }
+{
+    let (least, most) = if rewritten { (0, 0) } else { (2, 65536) };
+    Field {
+        at: 56,
+        size: Size::Four,
+        least,
+        most,
+    }
+}
+
+/// The number of this size at this place, or 0 where it isn't whole.
+fn number_or_zero(head: &[u8], at: usize, size: Size) -> u64
+    ensures { result ≡ number_or_zero size at head.now }
+{
+    if head.len().saturating_sub(at) < size.bytes() {
+        0
+    } else {
+        number_in(head, at, size)
+    }
+}
+
+/// Whether these first bytes are of a file that a compaction wrote.
+fn is_rewritten(head: &[u8]) -> bool
+    ensures { result ≡ is_rewritten head.now }
+{
+    number_or_zero(head, 2, Size::One) == 1
+}
+
+/// The fields behind the gate of a file with this id, in their order. What they may be is told by two of them: whether a
+/// compaction wrote it, and its last index.
+fn fields_of(id: FileId, rewritten: bool, last: u64) -> [Field; 12]
+    requires { IsFileId id }
+    ensures { result ≡ fields_by id rewritten last }
 {
     [
         Field::exactly(1, Size::One, 1),
-        Field::exactly(2, Size::One, 0),
+        Field {
+            at: 2,
+            size: Size::One,
+            least: 0,
+            most: 1,
+        },
         Field::exactly(3, Size::One, 0),
         Field::exactly(4, Size::Four, MARK),
         Field::exactly(8, Size::Eight, id.generation),
         Field::exactly(16, Size::Eight, id.base),
-        Field::exactly(24, Size::Eight, 0),
-        Field::exactly(32, Size::Eight, 0),
-        Field::exactly(40, Size::Eight, 0),
-        Field::exactly(48, Size::Eight, 0),
-        Field {
-            at: 56,
-            size: Size::Four,
-            least: 2,
-            most: 65536,
-        },
+        in_rewritten(rewritten, 24, id.base, INDEX_LIMIT),
+        in_rewritten(rewritten, 32, 0, INDEX_LIMIT),
+        in_rewritten(rewritten, 40, 0, INDEX_LIMIT),
+        in_rewritten(rewritten, 48, 0, last.saturating_sub(id.base - 1)),
+        size_field(rewritten),
         Field::exactly(60, Size::Four, 0),
     ]
 }
@@ -158,16 +207,68 @@ impl Descriptor {
         bytes
     }
 
-    /// The descriptor that a file of this id begins with, which is appended to; or the place where these first bytes of it are
-    /// damaged. The gate isn't looked at.
-    pub(crate) fn read(id: FileId, head: &[u8]) -> Result<Descriptor, usize>
-        ensures fields { IfOk result (λ descriptor. descriptor ≡ appended_descriptor id (number_at Size.Four 56 head.now)) }
-        ensures right { IfOk result (λ descriptor. first_wrong (descriptor_fields id) head.now ≡ None) }
-        ensures wrong { IfErr result (λ at. first_wrong (descriptor_fields id) head.now ≡ Some at) }
+    /// That of a file that a compaction wrote, by its first bytes.
+    fn rewritten(id: FileId, head: &[u8]) -> Descriptor
+        requires { 64 ≤ length head.now }
+        ensures { result ≡ rewritten_descriptor id head.now }
     {
-        match first_wrong_of(&fields_of(id), head) {
-            Some(at) => Err(at),
-            None => Ok(Descriptor::appended(id, u32_at(head, 56))),
+        Descriptor {
+            rewritten: true,
+            generation: id.generation,
+            base: id.base,
+            last: u64_at(head, 24),
+            cut: u64_at(head, 32),
+            floor: u64_at(head, 40),
+            count: u64_at(head, 48),
+            size: 0,
+        }
+    }
+
+    /// The descriptor that a file of this id begins with, or the place where these first bytes of it are damaged. The gate isn't
+    /// looked at.
+    pub(crate) fn read(id: FileId, head: &[u8]) -> Result<Descriptor, usize>
+        requires id { IsFileId id }
+        ensures fields { IfOk result (λ descriptor. descriptor ≡ descriptor_in id head.now) }
+        ensures right { IfOk result (λ descriptor. first_wrong (descriptor_fields id head.now) head.now ≡ None) }
+        ensures wrong { IfErr result (λ at. first_wrong (descriptor_fields id head.now) head.now ≡ Some at) }
+        ensures rule { IfOk result (λ descriptor. HasRule id (Some descriptor)) }
+    {
+        let rewritten = is_rewritten(head);
+        let last = number_or_zero(head, 24, Size::Eight);
+        if let Some(at) = first_wrong_of(&fields_of(id, rewritten, last), head) {
+            return Err(at);
+        }
+        if rewritten {
+            Ok(Descriptor::rewritten(id, head))
+        } else {
+            Ok(Descriptor::appended(id, u32_at(head, 56)))
+        }
+    }
+
+    /// The rule of its file.
+    pub(crate) fn rule(&self) -> Rule
+        ensures { result ≡ rule_by self.now }
+    {
+        if self.rewritten {
+            Rule::Rewritten {
+                last: self.last,
+                left: self.count,
+            }
+        } else {
+            Rule::Appended
+        }
+    }
+
+    /// The last index of its file, which has so many entries.
+    pub(crate) fn last_by(&self, count: usize) -> Index
+        requires first { 1 ≤ self.now.base }
+        requires few { self.now.rewritten ≡ false → self.now.base + count < 2 ^ 64 }
+        ensures { result ≡ last_by self.now count }
+    {
+        if self.rewritten {
+            self.last
+        } else {
+            self.base - 1 + count as u64
         }
     }
 }

@@ -7,6 +7,7 @@ mod frames;
 mod gates;
 mod numbers;
 mod reading;
+mod rule;
 mod settle;
 mod tails;
 mod windows;

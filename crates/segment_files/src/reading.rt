@@ -1,14 +1,14 @@
-// What a file holds, read from its start to its first gate that isn't open.
-ghost use Rattle.std.specs.Prelude.{◌≡◌, ◌+◌, ◌-◌, ◌<◌, ◌≤◌, ◌^◌, ℕ, List, [], length, IsTrue, IsErrOf, IfOk, IfErr, OnOk};
+// What a file holds, read from its start to the end of its frames.
+ghost use Rattle.std.specs.Prelude.{◌≡◌, ◌+◌, ◌-◌, ◌<◌, ◌≤◌, ◌^◌, ℕ, List, [], length, Some, IsTrue, IsErrOf, IfOk, IfErr, OnOk};
 ghost use Rattle.disk_model.specs.Image.{IsFileId, place};
 ghost use Rattle.disk_model.specs.View.{LeavesAt, MayHold, Reads, IsListed};
 ghost use Rattle.disk_model.specs.Calls.{Looks, Stays};
-ghost use Rattle.host_types.specs.Limits.{last_limit};
 ghost use Rattle.segment_files.specs.Parse.{Damaged, parse};
 ghost use Rattle.segment_files.specs.declared.reading.FileFault.TheVariants.{NoMemory};
-ghost use Rattle.segment_files.specs.Contents.{AreBelow, FramesBelow, HasFew, HasFileCause, HasFrames, IfRight, IsBounded, IsFound, IsHead, IsLong, IsMeasured, IsNoDamage, IsRead, IsWithin, ReadsPiece, file_fault};
+ghost use Rattle.segment_files.specs.Contents.{AfterFrames, HasFew, HasFileCause, HasFrames, HasRoom, HasRule, IfRight, IsBounded, IsFound, IsHead, IsLong, IsMeasured, IsNoDamage, IsPutDown, IsRead, IsRule, IsWithin, ReadsPiece, file_fault};
 
 use crate::descriptor::Descriptor;
+use crate::rule::Rule;
 use crate::windows::{Walked, read_window};
 use disk_model::{Disk, DiskFault, FileId};
 use host_types::{Index, LogName, NoMemory as OutOfMemory};
@@ -30,9 +30,11 @@ pub enum FileFault {
 #[derive(Drop)]
 pub struct Part {
     pub descriptor: Descriptor,
-    /// The index of its last entry, or one less than its base where it has none.
+    /// The last index of its range: of a file that is appended to that of its last entry, or one less than its base where it has
+    /// none; of a file that a compaction wrote, that of its descriptor.
     pub last: Index,
-    /// The place of its first gate that isn't open. The next frame goes there.
+    /// The place of its first gate that isn't open, where the next frame goes; or behind the last frame of a file that a
+    /// compaction wrote.
     pub gate: u64,
     /// Where each of its entries stands.
     pub offsets: Offsets,
@@ -60,7 +62,7 @@ enum Contents {
 /// What the frames of a file are.
 #[derive(Clone, Copy, Debug, PartialEq, Eq)]
 enum Frames {
-    /// They end at this place, before a gate that isn't open.
+    /// They end at this place.
     End { gate: u64 },
     /// They aren't right at this place.
     Damaged { at: u64 },
@@ -105,6 +107,7 @@ fn read_head<D: Disk>(
     requires id { IsFileId id }
     requires listed { IsTrue D.tells → IsListed (D.view disk.old) (place name.now id) }
     ensures head { IsTrue D.tells → (bytes : List ℕ) → Reads (D.view disk.old) (place name.now id) bytes → IsHead id bytes result }
+    ensures rule { IfOk result (HasRule id) }
     ensures told { IsTrue D.tells → Looks (D.view disk.old) (D.view disk.new) }
     ensures cause { HasFileCause (D.faults disk.old) (D.faults disk.new) result }
 {
@@ -126,6 +129,7 @@ fn read_piece<D: Disk>(
     disk: &mut D,
     name: &LogName,
     id: FileId,
+    rule: Rule,
     at: u64,
     end: u64,
     buffer: &mut [u8],
@@ -136,16 +140,17 @@ fn read_piece<D: Disk>(
     requires within { at < end }
     requires end { IsTrue D.tells → (bytes : List ℕ) → Reads (D.view disk.old) (place name.now id) bytes → end ≡ length bytes }
     requires buffer { 1 ≤ length buffer.old }
-    requires few { length offsets.old.items ≤ last_limit }
-    requires below { AreBelow offsets.old.items at }
-    ensures few { IfOk result (λ walked. length offsets.new.items ≤ last_limit) }
+    requires rule { IsRule id.base rule }
+    requires put_down { IsPutDown rule id.base offsets.old.items at }
+    requires room { HasRoom rule (length offsets.old.items) }
     ensures within { IfOk result (IsWithin (end - at)) }
     ensures longer { IfOk result (λ walked. walked ≡ Walked.Rest 0 → length buffer.old < end - at) }
     ensures measured { IfOk result (IsMeasured (length offsets.old.items) (length offsets.new.items)) }
-    ensures below { IfOk result (IfRight (λ behind. AreBelow offsets.new.items (at + behind))) }
+    ensures room { IfOk result (IfRight (λ at. HasRoom rule (length offsets.new.items))) }
+    ensures put_down { IfOk result (IfRight (λ behind. IsPutDown rule id.base offsets.new.items (at + behind))) }
     ensures no_damage { IfErr result IsNoDamage }
     ensures reads { IsTrue D.tells → (bytes : List ℕ) → Reads (D.view disk.old) (place name.now id) bytes
-        → IfOk result (ReadsPiece bytes (id.base - 1 + length offsets.old.items) at offsets.old.items offsets.new.items) }
+        → IfOk result (ReadsPiece rule id.base bytes at offsets.old.items offsets.new.items) }
     ensures told { IsTrue D.tells → Looks (D.view disk.old) (D.view disk.new) }
     ensures cause { HasFileCause (D.faults disk.old) (D.faults disk.new) result }
 {
@@ -156,7 +161,7 @@ fn read_piece<D: Disk>(
         return Ok(Walked::Damaged { at: count });
     }
     let is_end = want as u64 == end - at;
-    let walked = read_window(alloc, id.base, at, window, is_end, offsets)?;
+    let walked = read_window(alloc, rule, id.base, at, window, is_end, offsets)?;
     Ok(walked)
 }
 
@@ -177,6 +182,7 @@ fn read_frames<D: Disk>(
     disk: &mut D,
     name: &LogName,
     id: FileId,
+    rule: Rule,
     end: u64,
     buffer: &mut Vec<u8>,
     offsets: &mut Offsets,
@@ -186,18 +192,18 @@ fn read_frames<D: Disk>(
     requires end { IsTrue D.tells → (bytes : List ℕ) → Reads (D.view disk.old) (place name.now id) bytes → end ≡ length bytes }
     requires buffer { 1 ≤ length buffer.old.items }
     requires none { offsets.old.items ≡ [] }
-    ensures few { IfOk result (λ frames. length offsets.new.items ≤ last_limit) }
+    requires rule { IsRule id.base rule }
     ensures measured { IfOk result (IsLong (length offsets.new.items)) }
-    ensures below { IfOk result (FramesBelow offsets.new.items) }
+    ensures put_down { IfOk result (AfterFrames rule id.base offsets.new.items) }
     ensures frames { IsTrue D.tells → (bytes : List ℕ) → Reads (D.view disk.old) (place name.now id) bytes
-        → IfOk result (HasFrames bytes id.base offsets.new.items) }
+        → IfOk result (HasFrames rule bytes id.base offsets.new.items) }
     ensures no_damage { IfErr result IsNoDamage }
     ensures told { IsTrue D.tells → Looks (D.view disk.old) (D.view disk.new) }
     ensures cause { HasFileCause (D.faults disk.old) (D.faults disk.new) result }
 {
     let mut at = 64;
     while at < end {
-        match read_piece(alloc, disk, name, id, at, end, buffer, offsets)? {
+        match read_piece(alloc, disk, name, id, rule, at, end, buffer, offsets)? {
             Walked::Gate { at: behind } => {
                 return Ok(Frames::End {
                     gate: at + behind as u64,
@@ -217,7 +223,11 @@ fn read_frames<D: Disk>(
             }
         }
     }
-    Ok(Frames::Damaged { at })
+    if rule.behind(offsets.count()).is_full() {
+        Ok(Frames::End { gate: at })
+    } else {
+        Ok(Frames::Damaged { at })
+    }
 }
 
 /// Reads what stands behind the first bytes of a file, which are this descriptor.
@@ -230,7 +240,8 @@ fn read_part<D: Disk>(
 ) -> Result<Contents, FileFault>
     requires id { IsFileId id }
     requires listed { IsTrue D.tells → IsListed (D.view disk.old) (place name.now id) }
-    ensures few { IfOk result HasFew }
+    requires rule { HasRule id (Some descriptor) }
+    ensures few { IfOk result (HasFew id) }
     ensures found { IsTrue D.tells → (bytes : List ℕ) → Reads (D.view disk.old) (place name.now id) bytes
         → IsHead id bytes (Ok (Some descriptor)) → IsRead id bytes result }
     ensures told { IsTrue D.tells → Looks (D.view disk.old) (D.view disk.new) }
@@ -239,7 +250,8 @@ fn read_part<D: Disk>(
     let end = disk.length(name, id)?;
     let mut buffer = vec![in alloc; 0u8; PIECE]?;
     let mut offsets = Offsets::new(alloc);
-    match read_frames(alloc, disk, name, id, end, &mut buffer, &mut offsets)? {
+    let rule = descriptor.rule();
+    match read_frames(alloc, disk, name, id, rule, end, &mut buffer, &mut offsets)? {
         Frames::Damaged { at } => Err(FileFault::Damaged { at }),
         Frames::End { gate } => Ok(Contents::Open {
             descriptor,
@@ -258,7 +270,7 @@ fn read_file<D: Disk>(
 ) -> Result<Contents, FileFault>
     requires id { IsFileId id }
     requires listed { IsTrue D.tells → IsListed (D.view disk.old) (place name.now id) }
-    ensures few { IfOk result HasFew }
+    ensures few { IfOk result (HasFew id) }
     ensures found { IsTrue D.tells → (bytes : List ℕ) → Reads (D.view disk.old) (place name.now id) bytes → IsRead id bytes result }
     ensures told { IsTrue D.tells → Looks (D.view disk.old) (D.view disk.new) }
     ensures cause { HasFileCause (D.faults disk.old) (D.faults disk.new) result }
@@ -294,11 +306,14 @@ pub fn scan<D: Disk>(
             descriptor,
             offsets,
             gate,
-        } => Ok(Found::Part(Part {
-            descriptor,
-            last: id.base - 1 + offsets.count() as u64,
-            gate,
-            offsets,
-        })),
+        } => {
+            let last = descriptor.last_by(offsets.count());
+            Ok(Found::Part(Part {
+                descriptor,
+                last,
+                gate,
+                offsets,
+            }))
+        }
     }
 }

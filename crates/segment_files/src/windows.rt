@@ -1,12 +1,12 @@
 // Reads frames: an open gate, a length, and so many bytes of entries.
 ghost use Rattle.std.specs.Prelude.{◌≡◌, ◌&&◌, ◌+◌, ◌-◌, ◌<◌, ◌≤◌, ◌^◌, nat_lt, not, if◌then◌else◌, length, IfOk};
-ghost use Rattle.host_types.specs.Limits.{last_limit};
-ghost use Rattle.disk_model.specs.Image.{id_limit};
-ghost use Rattle.segment_files.specs.Parse.{body_limit, is_misplaced, is_next};
-ghost use Rattle.segment_files.specs.Contents.{AreBelow, EndsBelow, EntryBelow, FrameBelow, IfRight, IsMeasured, ReadsBody, ReadsFrame, ReadsNext, ReadsWindow};
+ghost use Rattle.host_types.specs.Limits.{index_limit};
+ghost use Rattle.segment_files.specs.Parse.{body_limit, follows, is_misplaced};
+ghost use Rattle.segment_files.specs.Contents.{AfterBody, AfterEntry, AfterFrame, HasRoom, IfRight, IsMeasured, IsPutDown, IsRule, ReadsBody, ReadsFrame, ReadsNext, ReadsWindow, last_read, walked_shut};
 
-use crate::frames::{BODY_LIMIT, FRAME_ROOM};
+use crate::frames::BODY_LIMIT;
 use crate::numbers::{u32_at, u64_at};
+use crate::rule::Rule;
 use entry_codec::{ReadFault, read};
 use host_types::{Index, NoMemory};
 use offset_index::{NoMemory as NoRoom, Offsets};
@@ -15,13 +15,10 @@ use std::alloc::Global;
 /// The least length of a body, that of one tick.
 const BODY_LEAST: usize = 17;
 
-/// The greatest last index of a log that is one file.
-const LAST: Index = 4294967295;
-
 /// How far the reading of some bytes came, which begin with a gate.
 #[derive(Clone, Copy, Debug, PartialEq, Eq)]
 pub(crate) enum Walked {
-    /// To a gate that isn't open.
+    /// To the end of the frames, in front of a gate.
     Gate { at: usize },
     /// To the end, or to a last frame there of which too little is at hand.
     Rest { at: usize },
@@ -49,77 +46,86 @@ enum EntryRead {
     Damaged { at: usize },
 }
 
-/// Whether a log may have an entry of this index behind that one.
-fn may_follow(before: Index, index: Index) -> bool
-    requires { before + 1 < 2 ^ 64 }
-    ensures { result ≡ is_next before index }
+/// The index of the last entry that was read of a file of this base, or the one before the base.
+fn last_of(base: Index, offsets: &Offsets) -> Index
+    requires base { 1 ≤ base }
+    requires room { last_read base offsets.now.items < 2 ^ 64 }
+    ensures { result ≡ last_read base offsets.now.items }
 {
-    index == before + 1 && index <= LAST
+    let count = offsets.count();
+    if count == 0 {
+        return base - 1;
+    }
+    base + offsets.at(count - 1).0
 }
 
-/// Whether these bytes begin with a whole index that a log can't have behind that one.
-fn begins_elsewhere(before: Index, bytes: &[u8]) -> bool
+/// Whether these bytes begin with a whole index that a file can't have behind that one.
+fn begins_elsewhere(rule: Rule, before: Index, bytes: &[u8]) -> bool
     requires { before + 1 < 2 ^ 64 }
-    ensures { result ≡ is_misplaced is_next before bytes.now }
+    ensures { result ≡ is_misplaced (follows rule) before bytes.now }
 {
-    bytes.len() >= 8 && !may_follow(before, u64_at(bytes, 0))
+    bytes.len() >= 8 && !rule.may_follow(before, u64_at(bytes, 0))
 }
 
-/// Reads the entry that these bytes begin with, which stand at `place` of their file, and notes where it stands, if the log may
-/// have it behind that index.
+/// Reads the entry that these bytes begin with, which stand at `place` of their file, and notes where it stands, if the file may
+/// have it behind those that were read.
 fn read_next(
     alloc: Global,
-    before: Index,
+    rule: Rule,
+    base: Index,
     place: u64,
     bytes: &[u8],
     offsets: &mut Offsets,
 ) -> Result<EntryRead, NoMemory>
-    requires room { before + 1 < 2 ^ 64 }
-    requires below { AreBelow offsets.old.items place }
-    ensures reads { IfOk result (ReadsNext bytes.now before place offsets.old.items offsets.new.items) }
-    ensures below { IfOk result (EntryBelow place offsets.new.items) }
+    requires base_first { 1 ≤ base }
+    requires base_last { base ≤ index_limit }
+    requires rule { IsRule base rule }
+    requires put_down { IsPutDown rule base offsets.old.items place }
+    ensures reads { IfOk result (ReadsNext rule base bytes.now place offsets.old.items offsets.new.items) }
+    ensures put_down { IfOk result (AfterEntry rule base offsets.new.items place) }
 {
-    if begins_elsewhere(before, bytes) {
+    let before = last_of(base, offsets);
+    if begins_elsewhere(rule, before, bytes) {
         return Ok(EntryRead::Damaged { at: 0 });
     }
-    let (_, entry, size) = match read(alloc, bytes) {
+    let (index, entry, size) = match read(alloc, bytes) {
         Ok(found) => found,
         Err(ReadFault::Bad { at }) => return Ok(EntryRead::Damaged { at }),
         Err(ReadFault::NoMemory) => return Err(NoMemory),
     };
     drop(entry);
-    match offsets.push(offsets.count() as u64, place) {
+    match offsets.push(index - base, place) {
         Ok(()) => Ok(EntryRead::Whole { size }),
         Err(NoRoom) => Err(NoMemory),
     }
 }
 
-/// Reads the entries of a body, which stands at `place` of its file, behind those before it, which end at an index. Answers
-/// where the body is damaged, unless it is entries and nothing else, each at the next index.
+/// Reads the entries of a body, which stands at `place` of its file, behind those that were read. Answers where the body is
+/// damaged, unless it is entries and nothing else, each where the rule allows it.
 fn read_body(
     alloc: Global,
-    before: Index,
+    rule: Rule,
+    base: Index,
     place: u64,
     body: &[u8],
     offsets: &mut Offsets,
 ) -> Result<Option<usize>, NoMemory>
-    requires counted { length offsets.old.items ≤ before }
-    requires room { before ≤ id_limit + last_limit }
-    requires few { length offsets.old.items ≤ last_limit }
-    requires below { AreBelow offsets.old.items place }
+    requires base_first { 1 ≤ base }
+    requires base_last { base ≤ index_limit }
+    requires rule { IsRule base rule }
+    requires put_down { IsPutDown rule base offsets.old.items place }
     requires end { place + length body.now < 2 ^ 64 }
-    ensures few { IfOk result (λ damage. length offsets.new.items ≤ last_limit) }
-    ensures reads { IfOk result (ReadsBody body.now before place offsets.old.items offsets.new.items) }
-    ensures below { IfOk result (EndsBelow (place + length body.now) offsets.new.items) }
+    ensures reads { IfOk result (ReadsBody rule base body.now place offsets.old.items offsets.new.items) }
+    ensures put_down { IfOk result (AfterBody rule base offsets.new.items (place + length body.now)) }
 {
+    let room = rule.room();
     let mut at = 0;
     let mut count = 0;
     while at < body.len() {
-        if count == FRAME_ROOM {
+        if count == room {
             return Ok(Some(at));
         }
-        let before = before + count as u64;
-        match read_next(alloc, before, place + at as u64, &body[at..], offsets)? {
+        match read_next(alloc, rule, base, place + at as u64, &body[at..], offsets)? {
             EntryRead::Whole { size } => at += size,
             EntryRead::Damaged { at: behind } => return Ok(Some(at + behind)),
         }
@@ -158,24 +164,24 @@ fn right_frame(size: usize, long: usize) -> FrameRead
     }
 }
 
-/// Reads the frame that stands at `place` of its file, behind an open gate, behind the entries that end at this index. Where
-/// the file ends with these bytes, what is there of a frame is read, and the frame is damaged.
+/// Reads the frame that stands at `place` of its file, behind an open gate, behind the entries that were read. Where the file ends
+/// with these bytes, what is there of a frame is read, and the frame is damaged.
 fn read_frame(
     alloc: Global,
-    before: Index,
+    rule: Rule,
+    base: Index,
     place: u64,
     behind: &[u8],
     is_end: bool,
     offsets: &mut Offsets,
 ) -> Result<FrameRead, NoMemory>
-    requires counted { length offsets.old.items ≤ before }
-    requires room { before ≤ id_limit + last_limit }
-    requires few { length offsets.old.items ≤ last_limit }
-    requires below { AreBelow offsets.old.items place }
+    requires base_first { 1 ≤ base }
+    requires base_last { base ≤ index_limit }
+    requires rule { IsRule base rule }
+    requires put_down { IsPutDown rule base offsets.old.items place }
     requires end { place + length behind.now < 2 ^ 64 }
-    ensures few { IfOk result (λ read. length offsets.new.items ≤ last_limit) }
-    ensures reads { IfOk result (ReadsFrame behind.now is_end before place offsets.old.items offsets.new.items) }
-    ensures below { IfOk result (FrameBelow place offsets.new.items) }
+    ensures reads { IfOk result (ReadsFrame rule base behind.now is_end place offsets.old.items offsets.new.items) }
+    ensures put_down { IfOk result (AfterFrame rule base offsets.new.items place) }
 {
     if behind.len() < 4 {
         return Ok(cut_frame(behind.len(), is_end));
@@ -188,16 +194,27 @@ fn read_frame(
     if wants_more(there, size, is_end) {
         return Ok(FrameRead::Cut);
     }
-    match read_body(alloc, before, place + 4, &behind[4..4 + there], offsets)? {
+    match read_body(alloc, rule, base, place + 4, &behind[4..4 + there], offsets)? {
         Some(at) => Ok(FrameRead::Damaged { at: 4 + at }),
         None => Ok(right_frame(size, behind.len())),
     }
 }
 
-/// Reads all whole frames of a window, which begins with a gate at `place` of its file, and notes where their entries stand,
-/// behind those that were read already. The file may end with the window.
+/// What a gate that isn't open is: the end of a file that is appended to, and damage of another.
+fn shut_gate(rule: Rule, at: usize) -> Walked
+    ensures { result ≡ walked_shut rule at }
+{
+    match rule {
+        Rule::Appended => Walked::Gate { at },
+        Rule::Rewritten { .. } => Walked::Damaged { at },
+    }
+}
+
+/// Reads all whole frames of a window, which begins in place of a gate at `place` of its file, and notes where their entries
+/// stand, behind those that were read already. The file may end with the window.
 pub(crate) fn read_window(
     alloc: Global,
+    rule: Rule,
     base: Index,
     place: u64,
     window: &[u8],
@@ -205,23 +222,27 @@ pub(crate) fn read_window(
     offsets: &mut Offsets,
 ) -> Result<Walked, NoMemory>
     requires base_first { 1 ≤ base }
-    requires base_last { base ≤ id_limit }
-    requires few { length offsets.old.items ≤ last_limit }
-    requires below { AreBelow offsets.old.items place }
+    requires base_last { base ≤ index_limit }
+    requires rule { IsRule base rule }
+    requires put_down { IsPutDown rule base offsets.old.items place }
+    requires room { HasRoom rule (length offsets.old.items) }
     requires end { place + length window.now < 2 ^ 64 }
-    ensures few { IfOk result (λ walked. length offsets.new.items ≤ last_limit) }
     ensures measured { IfOk result (IsMeasured (length offsets.old.items) (length offsets.new.items)) }
-    ensures reads { IfOk result (λ walked. ReadsWindow window.now is_end (base - 1 + length offsets.old.items) place offsets.old.items offsets.new.items walked) }
-    ensures below { IfOk result (IfRight (λ at. AreBelow offsets.new.items (place + at))) }
+    ensures reads { IfOk result (ReadsWindow rule base window.now is_end place offsets.old.items offsets.new.items) }
+    ensures room { IfOk result (IfRight (λ at. HasRoom rule (length offsets.new.items))) }
+    ensures put_down { IfOk result (IfRight (λ at. IsPutDown rule base offsets.new.items (place + at))) }
 {
     let mut at = 0;
     while at < window.len() {
-        if window[at] != 1 {
+        let rule = rule.behind(offsets.count());
+        if rule.is_full() {
             return Ok(Walked::Gate { at });
         }
-        let before = base - 1 + offsets.count() as u64;
+        if window[at] != 1 {
+            return Ok(shut_gate(rule, at));
+        }
         let behind = place + at as u64 + 1;
-        match read_frame(alloc, before, behind, &window[at + 1..], is_end, offsets)? {
+        match read_frame(alloc, rule, base, behind, &window[at + 1..], is_end, offsets)? {
             FrameRead::Whole { size } => at += 1 + size,
             FrameRead::Cut => return Ok(Walked::Rest { at }),
             FrameRead::Damaged { at: behind } => return Ok(Walked::Damaged {

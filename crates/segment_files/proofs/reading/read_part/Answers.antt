@@ -1,4 +1,4 @@
-use Rattle.std.proofs.Common.{◌-◌, sym, subst, arith}
+use Rattle.std.proofs.Common.{take, sym, subst, ◌∙◌, arith}
 use Rattle.std.proofs.lemmas.Result.{err_from_is_err_and}
 use Rattle.disk_model.specs.Image.{place}
 use Rattle.segment_files.specs.declared.reading.Contents.{Contents}
@@ -7,7 +7,7 @@ use Rattle.segment_files.specs.declared.reading.Frames.{Frames}
 use Rattle.segment_files.specs.Parse.{Found, parse}
 use Rattle.segment_files.specs.Contents.{HasFrames, IsContents}
 use Rattle.segment_files.proofs.Looking.{looks_then, reads_still, read_before, listed_still}
-use Rattle.segment_files.proofs.Wholes.{bad_frames, is_part, other_fault, cause_passed, no_cause}
+use Rattle.segment_files.proofs.Wholes.{bad_frames, is_part, rule_read, other_fault, cause_passed, no_cause}
 use Rattle.segment_files.proofs.reading.read_part.Goals as goal
 
 pub read_frames-requires-clause-listed : goal.read_frames-requires-clause-listed
@@ -40,7 +40,8 @@ pub returns-in-Damaged-clause-found : goal.returns-in-Damaged-clause-found
 returns-in-Damaged-clause-found g c = λ t bytes reads head.
     let view = g.D.Disk.view in
     let now = reads_still (view c.args.disk.now) (view c.length.new.self) (place c.args.name.now c.args.id) bytes (c.in_ok-end.ensures.told t) reads in
-    bad_frames c.args.id bytes head.0 head.2 c.read_frames.new.offsets.items c.in-Damaged.at (subst (λ (f : Frames). HasFrames bytes c.args.id.base c.read_frames.new.offsets.items f) c.in-Damaged.is (c.in_ok-at.ensures.frames t bytes now))
+    bad_frames c.args.id bytes head.0 head.2 c.rule-rule.result c.read_frames.new.offsets.items c.in-Damaged.at (c.rule-rule.ensures ∙ rule_read c.args.id (take 64 bytes) c.args.descriptor head.1)
+    (subst (λ (f : Frames). HasFrames c.rule-rule.result bytes c.args.id.base c.read_frames.new.offsets.items f) c.in-Damaged.is (c.in_ok-at.ensures.frames t bytes now))
 
 pub returns-in-Damaged-clause-told : goal.returns-in-Damaged-clause-told
 returns-in-Damaged-clause-told g c = λ t.
@@ -57,8 +58,8 @@ returns-clause-found g c = λ t bytes reads head.
     let view = g.D.Disk.view in
     let offsets = c.read_frames.new.offsets in
     let now = reads_still (view c.args.disk.now) (view c.length.new.self) (place c.args.name.now c.args.id) bytes (c.in_ok-end.ensures.told t) reads in
-    let frames = subst (λ (f : Frames). HasFrames bytes c.args.id.base offsets.items f) c.in-End.is (c.in_ok-at.ensures.frames t bytes now) in
-    let part = is_part c.args.id bytes head.0 head.2 offsets.items c.in-End.gate frames c.args.descriptor head.1 in
+    let frames = subst (λ (f : Frames). HasFrames c.rule-rule.result bytes c.args.id.base offsets.items f) c.in-End.is (c.in_ok-at.ensures.frames t bytes now) in
+    let part = is_part c.args.id bytes head.0 head.2 offsets.items c.in-End.gate c.rule-rule.result (c.rule-rule.ensures ∙ rule_read c.args.id (take 64 bytes) c.args.descriptor head.1) frames c.args.descriptor head.1 in
     subst (λ (f : Found). IsContents c.args.id bytes f (Open c.args.descriptor offsets c.in-End.gate)) (sym part.1) (part.2, part.3)
 
 pub returns-clause-told : goal.returns-clause-told

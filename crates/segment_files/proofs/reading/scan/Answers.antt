@@ -19,5 +19,5 @@ returns-in-Open-clause-any_moment g c = λ t.
 
 pub returns-in-Open-clause-found : goal.returns-in-Open-clause-found
 returns-in-Open-clause-found g c = λ t bytes reads.
-    part_found c.args.id bytes (parse c.args.id bytes) c.in-Open.descriptor c.in-Open.offsets c.in-Open.gate c.count.result
-    (subst (IsContents c.args.id bytes (parse c.args.id bytes)) c.in-Open.is (c.in_ok-read_file.ensures.found t bytes reads)) c.count.ensures
+    part_found c.args.id bytes (parse c.args.id bytes) c.in-Open.descriptor c.in-Open.offsets c.in-Open.gate c.last_by-last.result c.count.result
+    (subst (IsContents c.args.id bytes (parse c.args.id bytes)) c.in-Open.is (c.in_ok-read_file.ensures.found t bytes reads)) c.count.ensures c.last_by-last.ensures
