@@ -50,3 +50,7 @@ tokens-remove before out i stands is j =
 
 pub tokens-empty : (out : set.FinSet nat_cmp) → out ≡ set.empty → (j : ℕ) → ◌≡◌ {A = ℕ} (cond (set.contains out j) 1 0) 0
 tokens-empty out is j = ap (λ o. cond (set.contains o j) 1 0) is ∙ ap (λ b. cond b 1 0) (set.contains-empty nat_cmp j)
+
+-- an index that is lent once has no token left when one came back
+pub tokens-gone : (before : Lent) (out : set.FinSet nat_cmp) (i : ℕ) → out ≡ set.remove before.out i → ◌≡◌ {A = ℕ} (cond (set.contains out i) 1 0) 0
+tokens-gone before out i is = ap (λ o. cond (set.contains o i) 1 0) is ∙ ap (λ b. cond b 1 0) (contains-removed before.out i i ∙ ap (λ b. not b && set.contains before.out i) (nat_eq_equiv.refl i))

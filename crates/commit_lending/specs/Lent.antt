@@ -1,5 +1,5 @@
 -- What callers see of a lender.
-use Rattle.std.specs.Prelude.{ℕ, ◌==◌, cond, List, refl}
+use Rattle.std.specs.Prelude.{ℕ, ◌==◌, cond, List, [], ◌∷◌, refl}
 use Rattle.std.specs.Ordering.{nat_cmp}
 use Rattle.std.specs.FinSet as set
 use Rattle.std.specs.Coded.{Coded, code_by, coded×, coded_ℕ, coded_list}
@@ -20,3 +20,7 @@ tokens lent index = cond (set.contains lent.out index) 1 0
 -- one for the index itself, none for any other
 abbrev pub one_of : ℕ → ℕ → ℕ
 one_of index j = cond (index == j) 1 0
+
+-- the pair that a token leaves which came back for the entry `by`, with so many of its index still out: the last one leaves it
+abbrev pub pair_of_last : ℕ → ℕ → ℕ → List (ℕ × ℕ)
+pair_of_last left index by = cond (left == 0) ((index, by) ∷ []) []

@@ -1,7 +1,7 @@
 // The lender. Contracts see which indexes are out, the closed pairs, and for how many more commits there is room.
 ghost use Rattle.std.specs.Prelude.{◌≡◌, ℕ, ◌+◌, ◌<◌, ◌≤◌, [], ◌∷◌, ◌++◌, OnOk, OnErr, IfSome, IfNone};
 ghost use Rattle.std.specs.FinSet as set;
-ghost use Rattle.commit_lending.specs.Lent.{tokens, one_of};
+ghost use Rattle.commit_lending.specs.Lent.{tokens, one_of, pair_of_last};
 
 use crate::NoMemory;
 use crate::commit::Commit;
@@ -15,8 +15,8 @@ use std::marker::Model;
 /// - `closed`, the list of pairs of an index and the index that closed it, in the order in which they were closed;
 /// - `spare`, the number of commits that can be lent before memory has to be reserved again.
 ///
-/// `tokens` counts how often an index is out. As long as an entry has one commit, that is once or never. What stands
-/// above speaks of this number, and not of the set.
+/// `tokens` counts how often an index is out. As long as an entry is lent once, that is once or never; what stands above
+/// speaks of this number, and holds for any.
 ///
 /// Only `reserve` takes memory. It also makes the room that the later `close` of the commit needs, and this room is kept
 /// for as long as the commit is out.
@@ -88,13 +88,14 @@ impl Lender {
         Commit::of(index)
     }
 
-    /// Takes back a commit that is out and marks it: the pair of its index and `by` is the last of `closed` then. The
-    /// index isn't out any more. `by` is the index of the entry that put the commit's cell anew or dropped it.
+    /// Takes back a commit that is out. With the last one of its index the index is marked: the pair of it and `by` is the
+    /// last of `closed` then. The index isn't out any more. `by` is the index of the entry that put the commit's cell anew
+    /// or dropped it.
     pub fn close(&mut self, commit: Commit, by: u64)
         requires { 0 < tokens self.old commit }
         ensures out { self.new.out ≡ set.remove self.old.out commit }
         ensures tokens { (j : ℕ) → tokens self.old j ≡ tokens self.new j + one_of commit j }
-        ensures closed { self.new.closed ≡ self.old.closed ++ (commit, by) ∷ [] }
+        ensures closed { self.new.closed ≡ self.old.closed ++ pair_of_last (tokens self.new commit) commit by }
         ensures spare { self.new.spare ≡ self.old.spare }
     {
         let index = commit.into_index();

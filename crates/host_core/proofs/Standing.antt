@@ -7,8 +7,8 @@ use Rattle.std.specs.FinMap.Entries.{is_sorted-where_key}
 use Rattle.host_types.specs.Cells.{Place, Held, Cells, at, places_of, place_cmp}
 use Rattle.host_types.proofs.Places.{place_total, exact_places}
 use Rattle.commit_lending.specs.Lent.{Lent, tokens, one_of}
-use Rattle.machine.specs.Release.{AreOut, Releases}
-use Rattle.machine.proofs.ReleaseLaws.{AreApart, are_out_second, both_held, releases_as, releases_both, releases_kept, releases_none, releases_then}
+use Rattle.machine.specs.Release.{AreOut, AreApart, Releases}
+use Rattle.machine.proofs.ReleaseLaws.{are_out_second, both_held, releases_as, releases_both, releases_kept, releases_none, releases_then}
 use Rattle.log_model.specs.hosted.Hosted.{Hosted, is_machine_place, machine_cells}
 use Rattle.log_model.specs.hosted.Parts.{session_cells}
 use Rattle.log_model.specs.hosted.Sound.{IsSound, IsFree}

@@ -7,7 +7,7 @@ ghost use Rattle.host_types.specs.Ranges.{IsIndex};
 ghost use Rattle.host_types.specs.declared.entry.Op.{Op as AnyOp};
 ghost use Rattle.host_types.specs.declared.entry.Effect.{Effect as AnyEffect};
 ghost use Rattle.host_types.specs.declared.entry.Reply.{Reply as AnyReply};
-ghost use Rattle.machine.specs.Release.{AreOut, Releases};
+ghost use Rattle.machine.specs.Release.{AreOut, AreApart, Releases};
 ghost use Rattle.library_tests.specs.Machines.{held_by_both};
 
 use crate::asks::Say;
@@ -25,7 +25,7 @@ fn never_creates<R: Resource>()
     ensures { (instance : ℕ) (cells : Cells) (op : AnyOp) (session index : ℕ) (effect : AnyEffect) (reply : AnyReply) → IsIndex instance → IsAsked cells op session index → R.decides.resolve instance cells op session index ≡ Decides effect reply → is_create effect ≡ false }
 {}
 
-/// One resource beside another: what both drop for a session.
+/// One resource beside another that holds other indexes: what both drop for a session.
 fn forget_both<A: Resource, B: Resource>(
     first: &mut A,
     second: &mut B,
@@ -33,7 +33,8 @@ fn forget_both<A: Resource, B: Resource>(
     by: Index,
     lender: &mut Lender,
 )
-    requires { AreOut (held_by_both (A.cells first.old) (B.cells second.old)) lender.old }
+    requires held { AreOut (held_by_both (A.cells first.old) (B.cells second.old)) lender.old }
+    requires apart { AreApart (places_of (A.cells first.old)) (places_of (B.cells second.old)) }
     ensures { Releases (held_by_both (A.cells first.old) (B.cells second.old)) (held_by_both (A.cells first.new) (B.cells second.new)) by lender.old lender.new }
 {
     first.forget_owner(owner, by, lender);

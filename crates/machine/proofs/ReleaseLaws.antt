@@ -1,15 +1,10 @@
 -- The release law of one step, of steps one after another, and of parts beside each other.
-use Rattle.std.proofs.Common.{◌≡◌, ◌⊎◌, inl, inr, ⊎_elim, ℕ, ◌+◌, ◌<◌, ◌≤◌, ◌==◌, ◌&&◌, Bool, true, false, cond, List, [], ◌∷◌, ◌++◌, nat_lt, refl, sym, ap, ◌∙◌, arith, append_assoc, append-nil}
-use Rattle.std.specs.FinSet as set
+use Rattle.std.proofs.Common.{◌≡◌, ◌⊎◌, inl, inr, ⊎_elim, ℕ, ◌+◌, ◌<◌, ◌==◌, ◌&&◌, Bool, true, false, cond, List, [], ◌∷◌, ◌++◌, nat_lt, refl, sym, ap, ◌∙◌, arith, append_assoc, append-nil}
 use Rattle.std.specs.Cmp.{nat_eq_equiv}
 use Rattle.std.proofs.lemmas.List.Sums.{sum_by-cons, sum_by-append}
 use Rattle.std.proofs.lemmas.Bool.Decides.{nat_tests, Decides-eqb}
-use Rattle.commit_lending.specs.Lent.{Lent, tokens, one_of}
-use Rattle.machine.specs.Release.{AreOut, is_released, times, Releases, Retires}
-
--- no index holds places of both
-abbrev pub AreApart : (ℕ → ℕ) → (ℕ → ℕ) → Type 0
-AreApart a b = (j : ℕ) → (a j ≡ 0) ⊎ (b j ≡ 0)
+use Rattle.commit_lending.specs.Lent.{Lent, tokens, one_of, pair_of_last}
+use Rattle.machine.specs.Release.{AreOut, AreApart, is_released, times, Releases, Retires}
 
 -- nothing is held
 abbrev pub nothing_held : ℕ → ℕ
@@ -33,18 +28,6 @@ apart_one f i j none above = go (i == j) refl
     go true e = let same : f i ≡ f j = ap f ((Decides-eqb i j).0 e) in absurd (omega (arith, same, none, above))
     go false e = ap bit e
 
-few_tokens : (b : Bool) → bit b ≤ 1
-few_tokens true = omega arith
-few_tokens false = omega arith
-
--- an entry has one commit
-pub held_once : (held : ℕ → ℕ) (lent : Lent) → AreOut held lent → (j : ℕ) → held j ≤ 1
-held_once held lent out j = go (nat_lt 0 (held j)) refl
-  where
-    go : (b : Bool) → nat_lt 0 (held j) ≡ b → held j ≤ 1
-    go true e = let above : 0 < held j = grind (arith, nat_tests, e) in omega (arith, out j above, few_tokens (set.contains lent.out j))
-    go false e = grind (arith, nat_tests, e)
-
 -- ---- what is out
 
 -- lending another index leaves out what is out
@@ -62,14 +45,24 @@ holds_nothing held lent i out absent = go (nat_lt 0 (held i)) refl
     go true e = let above : 0 < held i = grind (arith, nat_tests, e) in absurd (omega (arith, out i above, absent, above))
     go false e = grind (arith, nat_tests, e)
 
-pub apart_by_tokens : (a b : ℕ → ℕ) (lent : Lent) → AreOut (both_held a b) lent → AreApart a b
-apart_by_tokens a b lent out j = go (nat_lt 0 (a j)) refl
-  where
-    once : a j + b j ≤ 1
-    once = held_once (both_held a b) lent out j
+-- ---- apart
 
-    go : (t : Bool) → nat_lt 0 (a j) ≡ t → (a j ≡ 0) ⊎ (b j ≡ 0)
-    go true e = let above : 0 < a j = grind (arith, nat_tests, e) in inr (omega (arith, once, above))
+pub apart_turned : (a b : ℕ → ℕ) → AreApart a b → AreApart b a
+apart_turned a b apart j = ⊎_elim (λ (e : a j ≡ 0). inr e) (λ (e : b j ≡ 0). inl e) (apart j)
+
+-- what holds less is apart still
+pub apart_fewer : (a b a' b' : ℕ → ℕ) → ((j : ℕ) → a j ≡ 0 → a' j ≡ 0) → ((j : ℕ) → b j ≡ 0 → b' j ≡ 0) → AreApart a b → AreApart a' b'
+apart_fewer a b a' b' less less' apart j = ⊎_elim (λ (e : a j ≡ 0). inl (less j e)) (λ (e : b j ≡ 0). inr (less' j e)) (apart j)
+
+-- a commit beside one of them that the other doesn't hold
+pub apart_with : (a b : ℕ → ℕ) (i : ℕ) → a i ≡ 0 → AreApart a b → AreApart a (both_held b (one_of i))
+apart_with a b i none apart j = go (nat_lt 0 (a j)) refl
+  where
+    go : (t : Bool) → nat_lt 0 (a j) ≡ t → (a j ≡ 0) ⊎ (b j + one_of i j ≡ 0)
+    go true e =
+        let above : 0 < a j = grind (arith, nat_tests, e) in
+        let other : one_of i j ≡ 0 = apart_one a i j none above in
+        ⊎_elim (λ (e : a j ≡ 0). absurd (omega (arith, e, above))) (λ (e : b j ≡ 0). inr (omega (arith, e, other))) (apart j)
     go false e = inl (grind (arith, nat_tests, e))
 
 -- a commit beside what is held
@@ -87,7 +80,7 @@ are_out_with held lent i out none lent_once j above = go (i == j) refl
 
 -- where nothing goes or comes, what is out stays so
 pub are_out_same : (held : ℕ → ℕ) (before now : Lent) → now.out ≡ before.out → AreOut held before → AreOut held now
-are_out_same held before now same out j above = ap (λ o. bit (set.contains o j)) same ∙ out j above
+are_out_same held before now same out j above = ap (λ o. tokens (record { out = o; closed = now.closed; spare = now.spare }) j) same ∙ out j above
 
 -- of two parts that are out together, each is out
 pub are_out_first : (a b : ℕ → ℕ) (lent : Lent) → AreApart a b → AreOut (both_held a b) lent → AreOut a lent
@@ -174,27 +167,62 @@ pub are_out_beside : (a b rest : ℕ → ℕ) (by : ℕ) (before now : Lent) →
 are_out_beside a b rest by before now apart out step j above =
     ⊎_elim (λ (e : a j ≡ 0). omega (arith, out j above, step.tokens j, step.none_new j e, e)) (λ (e : rest j ≡ 0). absurd (omega (arith, e, above))) (apart j)
 
--- one token that was closed
+-- what stays apart from what a step releases
+pub apart_still : (a b rest : ℕ → ℕ) (by : ℕ) (before now : Lent) → AreApart rest a → Releases a b by before now → AreApart rest b
+apart_still a b rest by before now apart step = apart_fewer rest a rest b (λ j e. e) step.none_new apart
+
+-- one token that was closed: its index goes with the last of them
 pub closes_one : (was held : ℕ → ℕ) (i by : ℕ) (before now : Lent) → AreOut was before → ((j : ℕ) → held j + one_of i j ≡ was j)
-    → ((j : ℕ) → tokens before j ≡ tokens now j + one_of i j) → now.closed ≡ before.closed ++ (i, by) ∷ [] → now.spare ≡ before.spare
+    → ((j : ℕ) → tokens before j ≡ tokens now j + one_of i j) → now.closed ≡ before.closed ++ pair_of_last (tokens now i) i by → now.spare ≡ before.spare
     → Releases was held by before now
 closes_one was held i by before now out less gone closed spare = record {
   none_new = λ j e. omega (arith, less j, e);
   tokens = λ j. omega (arith, less j, gone j);
-  added = (i, by) ∷ [];
+  added = pair_of_last (tokens now i) i by;
   closed = closed;
-  exactly = λ j b. times-cons j b i by [] ∙ close_bit (i == j) (by == b) (was j) (held j) (held_once was before out j) (less j);
+  exactly = λ j b. paired j b ∙ ap (λ n. bit ((n == 0) && ((i == j) && (by == b)))) left ∙ go j b (i == j) refl;
   spare = spare;
 }
   where
-    close_bit : (e c : Bool) (m n : ℕ) → m ≤ 1 → n + bit e ≡ m → bit (e && c) + 0 ≡ bit (c && (nat_lt 0 m && (n == 0)))
-    close_bit true true m n once h = grind (arith, nat_tests, once, h)
-    close_bit true false m n once h = refl
-    close_bit false true m n once h = grind (arith, nat_tests, once, h)
-    close_bit false false m n once h = refl
+    -- as many are out as are held still
+    left : tokens now i ≡ held i
+    left =
+        let one = one_itself i in
+        let some : 0 < was i = omega (arith, less i, one) in
+        omega (arith, out i some, less i, gone i, one)
+
+    pair_bit : (c d : Bool) → bit d + 0 ≡ bit (true && d)
+    pair_bit c true = refl
+    pair_bit c false = refl
+
+    paired : (j b : ℕ) → times j b (pair_of_last (tokens now i) i by) ≡ bit ((tokens now i == 0) && ((i == j) && (by == b)))
+    paired j b = one (tokens now i == 0)
+      where
+        one : (c : Bool) → times j b (cond c ((i, by) ∷ []) []) ≡ bit (c && ((i == j) && (by == b)))
+        one true = times-cons j b i by [] ∙ pair_bit true ((i == j) && (by == b))
+        one false = refl
+
+    go : (j b : ℕ) (e : Bool) → (i == j) ≡ e → bit ((held i == 0) && ((i == j) && (by == b))) ≡ bit ((by == b) && is_released was held j)
+    go j b true e =
+        let same : held i ≡ held j = ap held ((Decides-eqb i j).0 e) in
+        let one : one_of i j ≡ 1 = ap bit e in
+        ap (λ t. bit ((held i == 0) && (t && (by == b)))) e ∙ ap (λ n. bit ((n == 0) && (by == b))) same ∙ here (by == b) (was j) (held j) (omega (arith, less j, one))
+      where
+        here : (c : Bool) (m n : ℕ) → n + 1 ≡ m → bit ((n == 0) && c) ≡ bit (c && (nat_lt 0 m && (n == 0)))
+        here true m n h = grind (arith, nat_tests, h)
+        here false m n h = grind (arith, nat_tests, h)
+    go j b false e =
+        let none : one_of i j ≡ 0 = ap bit e in
+        ap (λ t. bit ((held i == 0) && (t && (by == b)))) e ∙ other (held i == 0) (by == b) (was j) (held j) (omega (arith, less j, none))
+      where
+        other : (d c : Bool) (m n : ℕ) → n ≡ m → bit (d && (false && c)) ≡ bit (c && (nat_lt 0 m && (n == 0)))
+        other true true m n h = grind (arith, nat_tests, h)
+        other true false m n h = refl
+        other false true m n h = grind (arith, nat_tests, h)
+        other false false m n h = refl
 
 -- a commit that puts no cell is closed by its own entry
-pub closes_own : (i : ℕ) (before now : Lent) → tokens before i ≡ 1 → ((j : ℕ) → tokens before j ≡ tokens now j + one_of i j) → now.closed ≡ before.closed ++ (i, i) ∷ [] → now.spare ≡ before.spare
+pub closes_own : (i : ℕ) (before now : Lent) → tokens before i ≡ 1 → ((j : ℕ) → tokens before j ≡ tokens now j + one_of i j) → now.closed ≡ before.closed ++ pair_of_last (tokens now i) i i → now.spare ≡ before.spare
     → Releases (one_of i) nothing_held i before now
 closes_own i before now lent gone closed spare = closes_one (one_of i) nothing_held i i before now own (λ j. (let e : 0 + one_of i j ≡ one_of i j = omega arith in e)) gone closed spare
   where
@@ -233,7 +261,7 @@ releases_kept was rest i before now none step = releases_both was rest (one_of i
 
 -- it holds none, and is closed by its own index
 pub releases_closed : (was rest : ℕ → ℕ) (i : ℕ) (before mid now : Lent) → was i ≡ 0 → tokens before i ≡ 1 → Releases was rest i before mid
-    → ((j : ℕ) → tokens mid j ≡ tokens now j + one_of i j) → now.closed ≡ mid.closed ++ (i, i) ∷ [] → now.spare ≡ mid.spare
+    → ((j : ℕ) → tokens mid j ≡ tokens now j + one_of i j) → now.closed ≡ mid.closed ++ pair_of_last (tokens now i) i i → now.spare ≡ mid.spare
     → Releases (both_held was (one_of i)) rest i before now
 releases_closed was rest i before mid now none lent step gone closed spare =
     let here : tokens mid i ≡ 1 = omega (arith, step.tokens i, none, lent, step.none_new i none) in

@@ -1,6 +1,6 @@
 -- The release law: which commits go back, and with which marks. A map of cells stands here as the number of places that each
 -- index holds, and a lender as the number of its tokens of each index.
-use Rattle.std.specs.Prelude.{◌≡◌, ℕ, ◌+◌, ◌<◌, ◌≤◌, ◌==◌, ◌&&◌, Bool, false, cond, List, ◌++◌, count_by, nat_lt}
+use Rattle.std.specs.Prelude.{◌≡◌, ◌⊎◌, ℕ, ◌+◌, ◌<◌, ◌≤◌, ◌==◌, ◌&&◌, Bool, false, cond, List, ◌++◌, count_by, nat_lt}
 use Rattle.std.specs.List.{list_any}
 use Rattle.host_types.specs.Cells.{Cells, is_in_instance}
 use Rattle.host_types.specs.declared.entry.Effect.{Effect}
@@ -10,6 +10,10 @@ use Rattle.commit_lending.specs.Lent.{Lent, tokens}
 -- each index that holds a place has as many tokens out as it holds places
 abbrev pub AreOut : (ℕ → ℕ) → Lent → Type 0
 AreOut held lent = (j : ℕ) → 0 < held j → tokens lent j ≡ held j
+
+-- no index holds places of both
+abbrev pub AreApart : (ℕ → ℕ) → (ℕ → ℕ) → Type 0
+AreApart a b = (j : ℕ) → (a j ≡ 0) ⊎ (b j ≡ 0)
 
 -- the index held a place, and holds none now
 abbrev pub is_released : (ℕ → ℕ) → (ℕ → ℕ) → ℕ → Bool

@@ -5,16 +5,15 @@ use Rattle.std.specs.FinMap.Entries.{by_order, put, find, where_key, below_all, 
 use Rattle.std.specs.Ordering.{nat_cmp, is_eq, is_lt, eq_by_cmp}
 use Rattle.std.specs.Cmp.{nat_cmp_total, tied_itself}
 use Rattle.host_types.specs.declared.entry.Cell.{Cell}
-use Rattle.host_types.specs.declared.entry.Effect.{Effect}
 use Rattle.host_types.specs.declared.entry.Effect.TheVariants.{Delete}
 use Rattle.host_types.specs.Cells.{Place, Name_at, Cell_at, Register_at, Alive_at, Held, Cells, text_cmp, is_text, at, instance_after, after_effect}
 use Rattle.host_types.proofs.Places.{place_total}
 use Rattle.host_types.proofs.CellLaws.{is_sorted-changed}
 use Rattle.resource_catalog.specs.declared.names.Named.{Named}
 use Rattle.resource_catalog.specs.declared.slots.Slot.{Slot}
-use Rattle.resource_catalog.specs.Kinds.{any_kind, any_instance, any_cells, AnyIsReady}
+use Rattle.resource_catalog.specs.Kinds.{any_kind, any_instance, any_cells}
 use Rattle.resource_catalog.specs.Catalog.{is_place_of}
-use Rattle.resource_catalog.specs.Parts.{Names, Slots, name_held, slot_cells, whole_cells, IsOwn, ResourceIsReady}
+use Rattle.resource_catalog.specs.Parts.{Names, Slots, name_held, slot_cells, whole_cells, IsOwn}
 use Rattle.resource_catalog.proofs.Ordered.{InOrder}
 use Rattle.resource_catalog.specs.Steps.{without_name, without_slot, unnamed, unnamed_by, unname_at, tidied, is_named_at, AppliedWhere, AppliedIn}
 use Rattle.resource_catalog.proofs.Entries.{parts, to_T, is_less, missing_below}

@@ -1,11 +1,12 @@
 -- What a catalog holds, and its cells.
-use Rattle.std.specs.Prelude.{◌≡◌, ℕ, ◌≤◌, true, List, [], ◌∷◌, ◌++◌, Option, Some, IsTrue}
+use Rattle.std.specs.Prelude.{◌≡◌, ℕ, ◌≤◌, ◌<◌, List, [], ◌∷◌, ◌++◌, take, drop, Option, Some, IsTrue}
 use Rattle.std.specs.List.{list_all}
 use Rattle.std.specs.FinMap.Entries.{find, is_sorted}
 use Rattle.std.specs.Ordering.{nat_cmp}
-use Rattle.host_types.specs.Cells.{Name_at, Held, Cells, text_cmp, place_cmp, named}
+use Rattle.host_types.specs.Cells.{Name_at, Held, Cells, text_cmp, place_cmp, named, places_of}
 use Rattle.host_types.specs.declared.entry.Effect.{Effect}
 use Rattle.host_types.specs.declared.entry.Effect.TheVariants.{Create, Delete, Put, Drop, Wipe, WipeKey}
+use Rattle.machine.specs.Release.{AreApart}
 use Rattle.resource_catalog.specs.declared.names.Named.{Named}
 use Rattle.resource_catalog.specs.declared.slots.Slot.{Slot}
 use Rattle.resource_catalog.specs.Kinds.{any_kind, any_instance, any_cells, AnyIsReady}
@@ -52,11 +53,17 @@ abbrev pub AreOwn : Slots → Type 0
 AreOwn [] = Unit {0}
 AreOwn (e ∷ slots) = IsOwn e.0 e.1 × AreOwn slots
 
--- each name has its instance, and an instance that has a name is that of the name; each instance has cells of its own
+-- no index holds places of two instances: wherever they are cut in two, none holds places on both sides
+abbrev pub SlotsAreApart : Slots → Type 0
+SlotsAreApart slots = (n j : ℕ) → 0 < places_of (slot_cells (take n slots)) j → places_of (slot_cells (drop n slots)) j ≡ 0
+
+-- Each name has its instance, and an instance that has a name is that of the name; each instance has cells of its own. An index holds
+-- names, or places of instances, and then of one instance alone: that is a fact of the instances themselves (`SlotsAreApart`).
 pub record IsWhole (names : Names) (slots : Slots) : Type 0 where
   pub own : AreOwn slots
   pub placed : (x : List ℕ) (n : Named) → find text_cmp x names ≡ Some n → (s : Slot) × (find nat_cmp n.commit slots ≡ Some s) × (s.name ≡ Some x) × (any_kind s.resource ≡ n.kind)
   pub named : (m : ℕ) (s : Slot) (x : List ℕ) → find nat_cmp m slots ≡ Some s → s.name ≡ Some x → (n : Named) × (find text_cmp x names ≡ Some n) × (n.commit ≡ m)
+  pub apart : AreApart (places_of (name_cells names)) (places_of (slot_cells slots))
 
 -- ---- readiness
 

@@ -8,7 +8,7 @@ ghost use Rattle.commit_lending.specs.Lent.{tokens, one_of};
 ghost use Rattle.machine.specs.Listing.{listed};
 ghost use Rattle.machine.specs.Release.{AreOut, Releases, Retires};
 ghost use Rattle.resource_catalog.specs.Kinds.{any_cells};
-ghost use Rattle.resource_catalog.specs.Parts.{slot_cells, ResourceIsReady};
+ghost use Rattle.resource_catalog.specs.Parts.{slot_cells, SlotsAreApart, ResourceIsReady};
 ghost use Rattle.resource_catalog.specs.declared.slots.Slot.{Slot as ASlot};
 ghost use Rattle.resource_catalog.specs.Steps.{tells_by, without_slot, without_its_name, AppliedIn, KeptIn, Forgot, is_named_at, tells_at, closes_by, closes_in};
 
@@ -49,10 +49,12 @@ impl Slot {
     }
 }
 
-/// The instances, by rising index. Finding one takes time logarithmic in their number.
+/// The instances, by rising index. Finding one takes time logarithmic in their number. No index holds cells of two instances,
+/// however many of one it holds.
 pub(crate) struct Slots {
     pub(crate) entries: Vec<(Index, Slot)>,
     pub ghost rises: { IsTrue (is_sorted nat_cmp entries.items) },
+    pub ghost apart: { SlotsAreApart entries.items },
 }
 
 impl Slots {
@@ -85,9 +87,10 @@ impl Slots {
         }
     }
 
-    /// Puts an instance that isn't there, into room that was made.
+    /// Puts an instance that isn't there and has no cells, into room that was made.
     pub(crate) fn add(&mut self, instance: Index, slot: Slot)
         requires room { vec_len self.old.entries < vec_capacity self.old.entries }
+        requires empty { any_cells slot.resource ≡ [] }
         requires absent { find nat_cmp instance self.old.entries.items ≡ None }
         ensures { self.new.entries.items ≡ put nat_cmp instance slot self.old.entries.items }
     {

@@ -7,7 +7,7 @@ use Rattle.std.proofs.lemmas.List.Sums.{sum_by-cons, sum_by-append}
 use Rattle.std.proofs.lemmas.Bool.Decides.{nat_tests}
 use Rattle.host_types.specs.Cells.{Place, Held, Cells, Register_at, Alive_at, marked, places_of}
 use Rattle.slab.specs.Slab.{get}
-use Rattle.commit_lending.specs.Lent.{Lent, tokens, one_of}
+use Rattle.commit_lending.specs.Lent.{Lent, tokens, one_of, pair_of_last}
 use Rattle.machine.specs.Holding.{held_by, IsLent}
 use Rattle.machine.specs.Release.{AreOut, Releases, Retires}
 use Rattle.machine.proofs.ReleaseLaws.{both_held, are_out_with, are_out_still, closes_one, releases_then}
@@ -91,7 +91,7 @@ pub alive_released : (old new : ℕ → ℕ) (o : Option ℕ) (commit : ℕ) (be
 alive_released old new o commit before now out absent lent counts closed = closed (both_held old (one_of commit)) new (are_out_with old before commit out absent lent) counts
 
 -- both commits of a session, one after the other
-pub both_released : (id : ℕ) (o : Option ℕ) (by : ℕ) (before mid now : Lent) → ((j : ℕ) → tokens before j ≡ tokens mid j + one_of id j) → mid.closed ≡ before.closed ++ (id, by) ∷ [] → mid.spare ≡ before.spare → Closed o by mid now
+pub both_released : (id : ℕ) (o : Option ℕ) (by : ℕ) (before mid now : Lent) → ((j : ℕ) → tokens before j ≡ tokens mid j + one_of id j) → mid.closed ≡ before.closed ++ pair_of_last (tokens mid id) id by → mid.spare ≡ before.spare → Closed o by mid now
     → ClosesBoth id o by before now
 both_released id o by before mid now gone closed spare second was held out counts =
     let kept : ℕ → ℕ = λ j. held j + held_by o j in

@@ -10,7 +10,7 @@ use Rattle.resource_catalog.specs.Steps.{IsApplied, AppliedIn, unnamed_by, witho
 use Rattle.resource_catalog.proofs.Entries.{to_T}
 use Rattle.resource_catalog.proofs.Ordered.{in_order, is_whole}
 use Rattle.resource_catalog.proofs.Deleted.{unnamed_cells, whole_now, empty_now, whole_tidied, tidied_cells, cells_now}
-use Rattle.resource_catalog.proofs.Released.{slots_out_after, slots_new, whole_released, releases_quiet}
+use Rattle.resource_catalog.proofs.Released.{slots_out_after, slots_new, whole_released, still_apart, releases_quiet}
 use Rattle.resource_catalog.proofs.catalog.delete.Goals as goal
 
 pub apply-requires-clause-held : goal.apply-requires-clause-held
@@ -18,14 +18,14 @@ apply-requires-clause-held c =
     let names = c.args.names.now.entries.items in
     let slots = c.args.slots.now.entries.items in
     let same = ap slot_cells c.drop_name.ensures.slots ∙ unnamed_cells (find text_cmp c.args.name.now names) slots (to_T _ c.args.slots.now.rises) in
-    subst (λ (l : Cells). AreOut (places_of l) c.drop_name.new.lender) (sym same) (slots_out_after names slots c.args.lender.now c.requires.held c.index-by.result _ c.drop_name.new.lender c.drop_name.ensures.released)
+    subst (λ (l : Cells). AreOut (places_of l) c.drop_name.new.lender) (sym same) (slots_out_after names slots c.requires.whole.apart c.args.lender.now c.requires.held c.index-by.result _ c.drop_name.new.lender c.drop_name.ensures.released)
 
 pub apply-requires-clause-new : goal.apply-requires-clause-new
 apply-requires-clause-new c =
     let names = c.args.names.now.entries.items in
     let slots = c.args.slots.now.entries.items in
     let same = ap slot_cells c.drop_name.ensures.slots ∙ unnamed_cells (find text_cmp c.args.name.now names) slots (to_T _ c.args.slots.now.rises) in
-    ap (λ (l : Cells). places_of l c.args.commit) same ∙ slots_new names slots c.args.lender.now c.requires.held c.args.commit c.requires.new c.requires.lent
+    ap (λ (l : Cells). places_of l c.args.commit) same ∙ slots_new names slots c.requires.whole.apart c.args.commit c.requires.new
 
 pub tidy-requires : goal.tidy-requires
 tidy-requires c =
@@ -62,7 +62,8 @@ returns c =
     (subst (λ (l : Slots). IsApplied i c.args.effect.now names slots (without_name x names) l c.args.lender.now c.tidy.new.lender) (sym c.tidy.ensures.slots)
     (subst (λ (e : Effect). IsApplied i e names slots (without_name x names) (tidied m now) c.args.lender.now c.tidy.new.lender) (sym c.requires.told)
     (record {
-      whole = is_whole (without_name x names) (tidied m now) (whole_tidied (without_name x names) now m whole2);
+      whole = is_whole (without_name x names) (tidied m now) (whole_tidied (without_name x names) now m whole2)
+          (still_apart names slots c.requires.whole.apart i c.requires.new (without_name x names) (tidied m now) c.args.lender.now c.drop_name.new.lender c.tidy.new.lender first third);
       cells = cells_now names slots (in_order c.args.names.now c.args.slots.now c.requires.whole) x m i now is;
-      released = whole_released names slots c.args.lender.now c.requires.held i c.requires.new c.requires.lent (without_name x names) (tidied m now) c.drop_name.new.lender c.tidy.new.lender first third;
+      released = whole_released names slots c.requires.whole.apart i c.requires.new (without_name x names) (tidied m now) c.args.lender.now c.drop_name.new.lender c.tidy.new.lender first third;
     })))

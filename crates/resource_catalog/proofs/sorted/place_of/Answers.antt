@@ -1,4 +1,4 @@
-use Rattle.std.proofs.Common.{rules, ℕ, List, IfOk, IfErr, T, sym, subst}
+use Rattle.std.proofs.Common.{rules, List, IfOk, IfErr, T, sym, subst}
 use Rattle.std.proofs.lemmas.Fn.{always_returns_same}
 use Rattle.std.specs.FinMap.Entries.{is_sorted}
 use Rattle.resource_catalog.specs.Sorted.{StandsAt, GapAt}

@@ -1,10 +1,10 @@
-use Rattle.std.proofs.Common.{◌≡◌, ℕ, ◌+◌, true, arith, ap, sym, ◌∙◌, nat_eq}
+use Rattle.std.proofs.Common.{◌≡◌, ℕ, ◌+◌, ◌++◌, ◌∷◌, [], true, arith, ap, sym, ◌∙◌, nat_eq}
 use Rattle.std.specs.HashSet.{hash_set_len}
 use Rattle.std.specs.FinSet as set
 use Rattle.std.specs.List.{list_any}
-use Rattle.commit_lending.specs.Lent.{Lent}
+use Rattle.commit_lending.specs.Lent.{Lent, pair_of_last}
 use Rattle.commit_lending.proofs.Sets.{in_keys, take_key}
-use Rattle.commit_lending.proofs.Tokens.{is_out, tokens-remove}
+use Rattle.commit_lending.proofs.Tokens.{is_out, tokens-remove, tokens-gone}
 use Rattle.commit_lending.proofs.lender.Lender.close.Goals as goal
 
 -- a commit that is out is among the keys, so that its removal makes room
@@ -35,3 +35,10 @@ returns-clause-out c =
 
 pub returns-clause-tokens : goal.returns-clause-tokens
 returns-clause-tokens c = tokens-remove c.args.self.now _ c.args.commit c.requires (returns-clause-out c)
+
+pub returns-clause-closed : goal.returns-clause-closed
+returns-clause-closed c =
+    let items : c.push_back_reserved.new.self.items ≡ c.self.inside.closed.items ++ (c.into_index-index.result, c.args.by) ∷ [] = c.push_back_reserved.ensures.items in
+    items
+    ∙ (λ i. (ap (λ (l : Lent). l.closed) c.self.view_is) i ++ (c.into_index-index.ensures i, c.args.by) ∷ [])
+    ∙ sym (ap (λ n. c.args.self.now.closed ++ pair_of_last n c.args.commit c.args.by) (tokens-gone c.args.self.now _ c.args.commit (returns-clause-out c)))

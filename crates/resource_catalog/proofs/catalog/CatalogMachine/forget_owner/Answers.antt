@@ -1,14 +1,17 @@
-use Rattle.std.proofs.Common.{ap, sym, subst, ◌∙◌}
+use Rattle.std.proofs.Common.{ap, subst, ◌∙◌}
 use Rattle.host_types.specs.Cells.{places_of, without_owner}
-use Rattle.machine.specs.Release.{AreOut, Releases}
-use Rattle.resource_catalog.specs.Parts.{Parts, cells_of, whole_cells}
+use Rattle.machine.specs.Release.{Releases}
+use Rattle.machine.proofs.ReleaseLaws.{apart_still}
+use Rattle.resource_catalog.specs.Parts.{Parts, name_cells, slot_cells, cells_of, whole_cells}
 use Rattle.resource_catalog.proofs.Kept.{whole_forgot, cells_forgot}
 use Rattle.resource_catalog.proofs.Released.{slots_released}
 use Rattle.resource_catalog.proofs.Ordered.{in_order, is_whole}
 use Rattle.resource_catalog.proofs.catalog.CatalogMachine.forget_owner.Goals as goal
 
 pub invariant_of-self : goal.invariant_of-self
-invariant_of-self c = is_whole _ _ (whole_forgot c.self.inside.names.entries.items c.self.inside.slots.entries.items c.forget_owner.new.self.entries.items c.args.owner (in_order c.self.inside.names c.self.inside.slots c.self.invariant) c.forget_owner.ensures.slots)
+invariant_of-self c = is_whole _ _
+    (whole_forgot c.self.inside.names.entries.items c.self.inside.slots.entries.items c.forget_owner.new.self.entries.items c.args.owner (in_order c.self.inside.names c.self.inside.slots c.self.invariant) c.forget_owner.ensures.slots)
+    (apart_still _ (places_of (slot_cells c.forget_owner.new.self.entries.items)) (places_of (name_cells c.self.inside.names.entries.items)) c.args.by c.args.lender.now c.forget_owner.new.lender c.self.invariant.apart c.forget_owner.ensures.released)
 
 pub returns-clause-cells : goal.returns-clause-cells
 returns-clause-cells c =
@@ -19,6 +22,5 @@ pub returns-clause-released : goal.returns-clause-released
 returns-clause-released c =
     let names = c.self.inside.names.entries.items in
     let slots = c.self.inside.slots.entries.items in
-    let held = subst (λ (v : Parts). AreOut (places_of (cells_of v)) c.args.lender.now) (sym c.self.view_is) c.requires in
     subst (λ (v : Parts). Releases (places_of (cells_of v)) (places_of (whole_cells names c.forget_owner.new.self.entries.items)) c.args.by c.args.lender.now c.forget_owner.new.lender) c.self.view_is
-    (slots_released names slots c.args.lender.now held c.args.by c.forget_owner.new.self.entries.items c.forget_owner.new.lender c.forget_owner.ensures.released)
+    (slots_released names slots c.self.invariant.apart c.args.by c.forget_owner.new.self.entries.items c.args.lender.now c.forget_owner.new.lender c.forget_owner.ensures.released)

@@ -1,8 +1,6 @@
-use Rattle.std.proofs.Common.{sym, subst, ◌∙◌, take, drop, ◌++◌, ◌∷◌}
+use Rattle.std.proofs.Common.{sym, ◌∙◌, take, drop, ◌++◌, ◌∷◌}
 use Rattle.std.specs.Prelude.{is_ok}
 use Rattle.host_types.specs.Cells.{text_cmp}
-use Rattle.resource_catalog.specs.Sorted.{StandsAt, GapAt}
-use Rattle.resource_catalog.specs.Parts.{Names}
 use Rattle.resource_catalog.proofs.Search.{find_there, put_gap, rises_put, rises_either}
 use Rattle.resource_catalog.proofs.Texts.{text_total}
 use Rattle.resource_catalog.proofs.names.Names.add.Goals as goal

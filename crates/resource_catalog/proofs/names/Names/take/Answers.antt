@@ -4,8 +4,7 @@ use Rattle.host_types.specs.Cells.{text_cmp, places_of}
 use Rattle.commit_lending.specs.Lent.{tokens, one_of}
 use Rattle.machine.proofs.ReleaseLaws.{closes_one}
 use Rattle.resource_catalog.specs.declared.names.Named.{Named}
-use Rattle.resource_catalog.specs.Sorted.{StandsAt, GapAt}
-use Rattle.resource_catalog.specs.Parts.{Names, name_cells}
+use Rattle.resource_catalog.specs.Parts.{name_cells}
 use Rattle.resource_catalog.proofs.Search.{find_there, find_gap, where_there, where_gap, rises_where}
 use Rattle.resource_catalog.proofs.Places.{names_split, names_left, name_holds}
 use Rattle.resource_catalog.proofs.Texts.{text_total}

@@ -4,10 +4,10 @@ use Rattle.std.specs.Cmp.{nat_cmp_total, tied_itself}
 use Rattle.std.specs.Ordering.{nat_cmp, is_eq}
 use Rattle.std.specs.FinMap.Entries.{find, put, find-put}
 use Rattle.resource_catalog.specs.declared.slots.Slot.{Slot}
-use Rattle.resource_catalog.specs.Kinds.{AnyIsReady}
-use Rattle.resource_catalog.specs.Sorted.{StandsAt, GapAt}
+use Rattle.resource_catalog.specs.Kinds.{any_cells, AnyIsReady}
 use Rattle.resource_catalog.specs.Parts.{Slots}
 use Rattle.resource_catalog.specs.Steps.{KeptWhere}
+use Rattle.resource_catalog.proofs.Places.{apart_same}
 use Rattle.resource_catalog.proofs.Search.{set_split, find_there, find_gap, put_there, rises_set}
 use Rattle.resource_catalog.proofs.slots.Slots.prepare.Goals as goal
 
@@ -63,4 +63,8 @@ pub invariant_of-self : goal.invariant_of-self
 invariant_of-self c =
     let at = c.in-Ok.ensures.found in
     let same : c.index_mut.result.now ≡ at.entry = c.index_mut.ensures.value ∙ at.read c.index_mut.result.now in
-    record { rises = rises_set nat_cmp c.args.self.now.entries.items c.in-Ok.at at.entry c.index_mut.result.now.0 _ at.in_range at.split (ap (λ (x : ℕ × Slot). x.0) same) c.args.self.now.rises }
+    let slots = c.args.self.now.entries.items in
+    record {
+      rises = rises_set nat_cmp slots c.in-Ok.at at.entry c.index_mut.result.now.0 _ at.in_range at.split (ap (λ (x : ℕ × Slot). x.0) same) c.args.self.now.rises;
+      apart = apart_same slots c.in-Ok.at at.entry (c.index_mut.result.now.0, record { name = c.index_mut.result.now.1.name; resource = c.prepare.new.self }) at.in_range at.split c.args.self.now.apart (c.prepare.ensures.cells ∙ ap (λ (x : ℕ × Slot). any_cells x.1.resource) same);
+    }

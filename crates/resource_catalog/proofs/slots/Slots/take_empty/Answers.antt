@@ -1,12 +1,12 @@
-use Rattle.std.proofs.Common.{◌≡◌, ℕ, [], sym, ap, subst, ◌∙◌, arith}
+use Rattle.std.proofs.Common.{◌≡◌, ℕ, suc, [], take, drop, sym, ap, subst, ◌∙◌, arith}
 use Rattle.std.specs.Cmp.{nat_cmp_total}
 use Rattle.std.specs.Ordering.{nat_cmp}
 use Rattle.host_types.specs.Cells.{Cells, places_of}
 use Rattle.machine.specs.Release.{Retires}
 use Rattle.resource_catalog.specs.declared.slots.Slot.{Slot}
 use Rattle.resource_catalog.specs.Kinds.{any_cells}
-use Rattle.resource_catalog.specs.Sorted.{StandsAt, GapAt}
-use Rattle.resource_catalog.specs.Parts.{Slots}
+use Rattle.resource_catalog.specs.Parts.{SlotsAreApart}
+use Rattle.resource_catalog.proofs.Places.{apart_without}
 use Rattle.resource_catalog.proofs.Search.{find_there, where_there, where_gap, rises_where}
 use Rattle.resource_catalog.proofs.slots.Slots.take_empty.Goals as goal
 
@@ -37,4 +37,11 @@ returns-in_default-clause-slots c =
     sym (where_gap nat_cmp_total c.args.self.now.entries.items c.args.instance c.in_default.field-0 at)
 
 pub invariant_of-self : goal.invariant_of-self
-invariant_of-self c = record { rises = rises_where nat_cmp _ c.args.self.now.entries.items _ (c.remove-resource.ensures.items ∙ sym (where_there nat_cmp_total c.args.self.now.entries.items c.args.instance c.in-Ok.at c.in-Ok.ensures.found)) c.args.self.now.rises }
+invariant_of-self c =
+    let slots = c.args.self.now.entries.items in
+    let i = c.in-Ok.at in
+    let at = c.in-Ok.ensures.found in
+    record {
+      rises = rises_where nat_cmp _ slots _ (c.remove-resource.ensures.items ∙ sym (where_there nat_cmp_total slots c.args.instance i at)) c.args.self.now.rises;
+      apart = subst SlotsAreApart (sym c.remove-resource.ensures.items) (apart_without (take i slots) (drop (suc i) slots) at.entry (subst SlotsAreApart at.split c.args.self.now.apart));
+    }

@@ -1,10 +1,10 @@
-use Rattle.std.proofs.Common.{◌≡◌, ℕ, Option, set, sym, ap, subst, ◌∙◌}
+use Rattle.std.proofs.Common.{◌≡◌, ℕ, Option, set, sym, ap, ◌∙◌}
 use Rattle.std.specs.Cmp.{nat_cmp_total}
 use Rattle.std.specs.Ordering.{nat_cmp}
 use Rattle.resource_catalog.specs.declared.slots.Slot.{Slot}
-use Rattle.resource_catalog.specs.Sorted.{StandsAt, GapAt}
-use Rattle.resource_catalog.specs.Parts.{Slots}
+use Rattle.resource_catalog.specs.Kinds.{any_cells}
 use Rattle.resource_catalog.specs.Steps.{unnamed, unname_at}
+use Rattle.resource_catalog.proofs.Places.{apart_same}
 use Rattle.resource_catalog.proofs.Search.{set_split, find_there, find_gap, put_there, rises_set}
 use Rattle.resource_catalog.proofs.slots.Slots.unname.Goals as goal
 
@@ -28,4 +28,8 @@ pub invariant_of-self : goal.invariant_of-self
 invariant_of-self c =
     let at = c.in-Ok.ensures.found in
     let same : c.index_mut.result.now ≡ at.entry = c.index_mut.ensures.value ∙ at.read c.index_mut.result.now in
-    record { rises = rises_set nat_cmp c.args.self.now.entries.items c.in-Ok.at at.entry c.index_mut.result.now.0 _ at.in_range at.split (ap (λ (x : ℕ × Slot). x.0) same) c.args.self.now.rises }
+    let slots = c.args.self.now.entries.items in
+    record {
+      rises = rises_set nat_cmp slots c.in-Ok.at at.entry c.index_mut.result.now.0 _ at.in_range at.split (ap (λ (x : ℕ × Slot). x.0) same) c.args.self.now.rises;
+      apart = apart_same slots c.in-Ok.at at.entry (c.index_mut.result.now.0, unnamed c.index_mut.result.now.1) at.in_range at.split c.args.self.now.apart (ap (λ (x : ℕ × Slot). any_cells x.1.resource) same);
+    }
