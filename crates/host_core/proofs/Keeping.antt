@@ -161,7 +161,7 @@ module _ {M : Type 0} (cells : M → Cells) (d : MachineDecision) (s : CoreState
       machine = ap machine_cells (sym cells_are) ∙ part_follows (hosted cells s).cells index e k.sound.cells_rise ∙ ap (machine_after (hosted cells s).cells index e.body) k.machine ∙ sym entered.machine_is;
       sessions = ap session_cells (sym cells_are) ∙ session_part (hosted cells s).cells index (T_from _ k.sound.cells_rise) e.time e.body ∙ ap (sessions_after index e) k.sessions ∙ sym entered.table_is;
       out = λ j.
-          ap (λ o. cond (Rattle.std.specs.FinSet.contains o j) 1 0) out
+          ap (λ o. tokens (record { out = o; closed = lent''.closed; spare = lent''.spare }) j) out
           ∙ out_after index (cells s.machine) s.sessions lent (meets index lent behind lends) (cells machine) table lent' entered.released j
           ∙ sym (places-append (cells machine) (table_cells table) j);
       closed = closed;

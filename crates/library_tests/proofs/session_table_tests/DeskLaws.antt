@@ -145,7 +145,7 @@ free_after was held by before now j out step none =
 -- ---- steps
 
 pub tokens_stay : (before now : Lent) → now.out ≡ before.out → (j : ℕ) → tokens now j ≡ tokens before j
-tokens_stay before now e j = ap (λ o. cond (Rattle.std.specs.FinSet.contains o j) 1 0) e
+tokens_stay before now e j = ap (λ o. tokens (record { out = o; closed = now.closed; spare = now.spare }) j) e
 
 -- nothing that counts has changed
 pub stays_sound : (t t' : Table) (lent lent' : Lent) (next : ℕ) → t'.sessions ≡ t.sessions → table_cells t' ≡ table_cells t → lent'.out ≡ lent.out → IsSound t lent next → IsSound t' lent' next
