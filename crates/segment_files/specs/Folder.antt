@@ -1,5 +1,5 @@
 -- The parts that the files of a folder are of a log, and what log they are.
-use Rattle.std.specs.Prelude.{◌≡◌, ◌≢◌, ◌+◌, ◌≤◌, ◌⊎◌, ℕ, List, [], ◌∷◌, ◌++◌, length, take, Option, Some, None, Contains}
+use Rattle.std.specs.Prelude.{◌≡◌, ◌≢◌, ◌+◌, ◌≤◌, ◌⊎◌, ℕ, if◌then◌else◌, List, [], ◌∷◌, ◌++◌, length, take, Option, Some, None, Contains}
 use Rattle.std.specs.List.{enumerate_from}
 use Rattle.host_types.specs.declared.entry.Entry.{Entry}
 use Rattle.disk_model.specs.declared.file_id.FileId.{FileId}
@@ -11,10 +11,24 @@ use Rattle.segment_files.specs.Parse.{Numbered, Part, Found, Closed, Whole, Dama
 abbrev pub Folder : Type 0
 Folder = FileId → Found
 
+-- where a file says that a compaction wrote it
+abbrev pub kind_place : ℕ
+kind_place = 2
+
+-- As long as no log is opened with such a file, it counts as damaged where it says so.
+abbrev pub appended_only : Found → Found
+appended_only Closed = Closed
+appended_only (Whole part) = if part.rewritten then Damaged kind_place else Whole part
+appended_only (Damaged at) = Damaged at
+
+-- what a file counts as
+abbrev pub counts_as : FileId → List ℕ → Found
+counts_as id bytes = appended_only (parse id bytes)
+
 -- a file that isn't there is as good as a closed one
 abbrev pub found : FileId → Option (List ℕ) → Found
 found id None = Closed
-found id (Some bytes) = parse id bytes
+found id (Some bytes) = counts_as id bytes
 
 abbrev pub folder : List ℕ → Image → Folder
 folder name image id = found id (image (place name id))

@@ -266,12 +266,18 @@ rewritten_part id head (Ends entries gate) = Whole (record {
   gate = 64 + gate;
 })
 
--- the rule that a descriptor tells
+-- the rule that a descriptor tells, and what its file is then
+abbrev pub rule_as : Bool → List ℕ → Rule
+rule_as rewritten head = if rewritten then Rewritten (number_at Eight last_place head) (number_at Eight 48 head) else Appended
+
 abbrev pub rule_of : List ℕ → Rule
-rule_of head = if is_rewritten head then Rewritten (number_at Eight last_place head) (number_at Eight 48 head) else Appended
+rule_of head = rule_as (is_rewritten head) head
+
+abbrev pub part_as : FileId → List ℕ → Bool → Walk → Found
+part_as id head rewritten w = if rewritten then rewritten_part id head w else appended_part id head w
 
 abbrev pub part_of : FileId → List ℕ → Walk → Found
-part_of id head w = if is_rewritten head then rewritten_part id head w else appended_part id head w
+part_of id head w = part_as id head (is_rewritten head) w
 
 abbrev pub described : FileId → List ℕ → List ℕ → Option ℕ → Found
 described id head frames (Some place) = Damaged place

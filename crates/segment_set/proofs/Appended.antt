@@ -6,7 +6,8 @@ use Rattle.disk_model.specs.declared.file_id.FileId.{FileId}
 use Rattle.disk_model.specs.Image.{written}
 use Rattle.segment_files.specs.Files.{is_open, IsWholeOrAbsent, then_shut}
 use Rattle.segment_files.specs.Numbers.{four_at}
-use Rattle.segment_files.specs.Parse.{Numbered, Part, Closed, Whole, first_wrong, descriptor_fields, described, appended_part, Framed, frame, is_next, frame_room, Walk, Ends, Fails, appended_walk, parse_open, parse}
+use Rattle.segment_files.specs.Folder.{appended_only, counts_as}
+use Rattle.segment_files.specs.Parse.{Numbered, Part, Closed, Whole, first_wrong, descriptor_fields, described, is_rewritten, appended_part, rewritten_part, part_as, rule_as, rule_of, Framed, frame, is_next, frame_room, Walk, Ends, Fails, appended_walk, walk, parse_open}
 use Rattle.segment_set.specs.Growth.{grown}
 use Rattle.segment_set.proofs.Walks.{walked, reach, extend, extended, one_frame, walk_shut}
 
@@ -15,23 +16,33 @@ the_part id head entries gate = record { id = id; rewritten = false; last = id.b
 
 pub record Appended (id : FileId) (b : List ℕ) (tail : Part) : Type 0 where
   pub is_open : is_open b ≡ true
-  pub right : first_wrong (descriptor_fields id) (take 64 b) ≡ None
+  pub right : first_wrong (descriptor_fields id (take 64 b)) (take 64 b) ≡ None
+  pub plain : is_rewritten (take 64 b) ≡ false
   pub entries : Numbered
   pub gate : ℕ
   pub walk : appended_walk 0 (id.base - 1) (drop 64 b) ≡ Ends entries gate
   pub is : tail ≡ the_part id (take 64 b) entries gate
 
-parse_opens : (id : FileId) (b : List ℕ) → is_open b ≡ true → parse id b ≡ described id (take 64 b) (drop 64 b) (first_wrong (descriptor_fields id) (take 64 b))
+parse_opens : (id : FileId) (b : List ℕ) → is_open b ≡ true → counts_as id b ≡ appended_only (described id (take 64 b) (drop 64 b) (first_wrong (descriptor_fields id (take 64 b)) (take 64 b)))
 unfolding parse_open
-parse_opens id b is = ap (λ (t : Bool). if t then parse_open id (take 64 b) (drop 64 b) else Closed) is
+parse_opens id b is = ap (λ (t : Bool). appended_only (if t then parse_open id (take 64 b) (drop 64 b) else Closed)) is
 
-pub parse_shut : (id : FileId) (b : List ℕ) → is_open b ≡ false → parse id b ≡ Closed
-parse_shut id b is = ap (λ (t : Bool). if t then parse_open id (take 64 b) (drop 64 b) else Closed) is
+pub parse_shut : (id : FileId) (b : List ℕ) → is_open b ≡ false → counts_as id b ≡ Closed
+parse_shut id b is = ap (λ (t : Bool). appended_only (if t then parse_open id (take 64 b) (drop 64 b) else Closed)) is
+
+pub only_appended : (id : FileId) (head : List ℕ) (w : Walk) → appended_only (appended_part id head w) ≡ appended_part id head w
+only_appended id head (Ends es g) = refl
+only_appended id head (Fails p) = refl
+
+-- no file that a compaction wrote counts as a part
+none_rewritten : (id : FileId) (head : List ℕ) (w : Walk) (tail : Part) → appended_only (rewritten_part id head w) ≡ Whole tail → ⊥
+none_rewritten id head (Ends es g) tail is = absurd (cc)
+none_rewritten id head (Fails p) tail is = absurd (cc)
 
 -- what an open file was found to be
-pub appended : (id : FileId) (b : List ℕ) (tail : Part) → parse id b ≡ Whole tail → Appended id b tail
+pub appended : (id : FileId) (b : List ℕ) (tail : Part) → counts_as id b ≡ Whole tail → Appended id b tail
 appended id b tail whole = ⊎_elim
-    (λ opens. wrong opens (first_wrong (descriptor_fields id) (take 64 b)) refl (sym (parse_opens id b opens) ∙ whole))
+    (λ opens. wrong opens (first_wrong (descriptor_fields id H) H) refl (sym (parse_opens id b opens) ∙ whole))
     (λ shuts. absurd (cc (parse_shut id b shuts, whole)))
     (cases_Bool (is_open b))
   where
@@ -41,13 +52,28 @@ appended id b tail whole = ⊎_elim
     H : List ℕ
     H = take 64 b
 
-    ended : is_open b ≡ true → first_wrong (descriptor_fields id) H ≡ None → (w : Walk) → appended_walk 0 (id.base - 1) F ≡ w → appended_part id H w ≡ Whole tail → Appended id b tail
-    ended opens right (Fails p) w_is is = absurd (cc)
-    ended opens right (Ends es g) w_is is = record { is_open = opens; right = right; entries = es; gate = g; walk = w_is; is = cc }
+    W : Walk
+    W = walk (rule_of (take 64 b)) 0 (id.base - 1) (drop 64 b)
 
-    wrong : is_open b ≡ true → (o : Option ℕ) → first_wrong (descriptor_fields id) H ≡ o → described id H F o ≡ Whole tail → Appended id b tail
+    ended : is_open b ≡ true → first_wrong (descriptor_fields id H) H ≡ None → is_rewritten H ≡ false → (w : Walk) → W ≡ w → appended_part id H w ≡ Whole tail → Appended id b tail
+    ended opens right plain (Fails p) w_is is = absurd (cc)
+    ended opens right plain (Ends es g) w_is is = record {
+      is_open = opens;
+      right = right;
+      plain = plain;
+      entries = es;
+      gate = g;
+      walk = sym (ap (λ (t : Bool). walk (rule_as t H) 0 (id.base - 1) F) plain) ∙ w_is;
+      is = cc;
+    }
+
+    by : is_open b ≡ true → first_wrong (descriptor_fields id H) H ≡ None → (t : Bool) → is_rewritten H ≡ t → appended_only (part_as id H t W) ≡ Whole tail → Appended id b tail
+    by opens right true t_is is = absurd (none_rewritten id H W tail is)
+    by opens right false t_is is = ended opens right t_is W refl (sym (only_appended id H W) ∙ is)
+
+    wrong : is_open b ≡ true → (o : Option ℕ) → first_wrong (descriptor_fields id H) H ≡ o → appended_only (described id H F o) ≡ Whole tail → Appended id b tail
     wrong opens (Some p) o_is is = absurd (cc)
-    wrong opens None o_is is = ended opens o_is _ refl is
+    wrong opens None o_is is = by opens o_is (is_rewritten H) refl is
 
 -- Another file that is the same up to the gate is read the same up to the gate.
 module _ (id : FileId) (b : List ℕ) (tail : Part) (a : Appended id b tail) where
@@ -78,16 +104,18 @@ module _ (id : FileId) (b : List ℕ) (tail : Part) (a : Appended id b tail) whe
         and_from (nat_eq (get_or c 0 0) 1) (nat_le 2 (length c)) (ap (λ (x : ℕ). nat_eq x 1) byte ∙ parts.0)
         (le-leb 2 (length c) (omega (arith, ap length is, length-append L rest, long)))
 
-    pub ahead : parse id c ≡ appended_part id (take 64 b) (extended a.entries a.gate (appended_walk 0 (id.base - 1 + length a.entries) rest))
+    pub ahead : counts_as id c ≡ appended_part id (take 64 b) (extended a.entries a.gate (appended_walk 0 (id.base - 1 + length a.entries) rest))
     ahead =
         parse_opens id c opens
-        ∙ ap (λ (h : List ℕ). described id h (drop 64 c) (first_wrong (descriptor_fields id) h)) head_same
-        ∙ ap (λ (o : Option ℕ). described id (take 64 b) (drop 64 c) o) a.right
+        ∙ ap (λ (h : List ℕ). appended_only (described id h (drop 64 c) (first_wrong (descriptor_fields id h) h))) head_same
+        ∙ ap (λ (o : Option ℕ). appended_only (described id (take 64 b) (drop 64 c) o)) a.right
+        ∙ ap (λ (t : Bool). appended_only (part_as id (take 64 b) t (walk (rule_as t (take 64 b)) 0 (id.base - 1) (drop 64 c)))) a.plain
+        ∙ only_appended id (take 64 b) (appended_walk 0 (id.base - 1) (drop 64 c))
         ∙ ap (λ (l : List ℕ). appended_part id (take 64 b) (appended_walk 0 (id.base - 1) l)) frames_same
         ∙ ap (appended_part id (take 64 b)) (extend 0 (id.base - 1) (drop 64 b) a.entries a.gate (walked (drop 64 b) 0 (id.base - 1) a.entries a.gate a.walk) rest)
 
   -- with a shut gate there
-  pub without : (c : List ℕ) (x : ℕ) (l : List ℕ) → c ≡ take (64 + a.gate) b ++ x ∷ l → nat_eq x 1 ≡ false → parse id c ≡ Whole tail
+  pub without : (c : List ℕ) (x : ℕ) (l : List ℕ) → c ≡ take (64 + a.gate) b ++ x ∷ l → nat_eq x 1 ≡ false → counts_as id c ≡ Whole tail
   without c x l is shut =
       ahead c (x ∷ l) is (omega arith)
       ∙ ap (λ (w : Walk). appended_part id (take 64 b) (extended a.entries a.gate w)) (walk_shut (id.base - 1 + length a.entries) x l shut)
@@ -96,7 +124,7 @@ module _ (id : FileId) (b : List ℕ) (tail : Part) (a : Appended id b tail) whe
       ∙ ap Whole (sym a.is)
 
   -- with a frame and a shut gate there
-  pub gaining : (fb : List ℕ) (new : Numbered) (c rest : List ℕ) → frame is_next frame_room tail.last fb ≡ Framed new (length fb) → c ≡ take (64 + a.gate) b ++ (1 ∷ fb ++ 0 ∷ rest) → parse id c ≡ Whole (grown tail new (1 + length fb))
+  pub gaining : (fb : List ℕ) (new : Numbered) (c rest : List ℕ) → frame is_next frame_room tail.last fb ≡ Framed new (length fb) → c ≡ take (64 + a.gate) b ++ (1 ∷ fb ++ 0 ∷ rest) → counts_as id c ≡ Whole (grown tail new (1 + length fb))
   gaining fb new c rest is_frame is =
       let last_is : tail.last ≡ id.base - 1 + length a.entries = ap (λ (p : Part). p.last) a.is in
       let framed = subst (λ (k : ℕ). frame is_next frame_room k fb ≡ Framed new (length fb)) last_is is_frame in
@@ -111,24 +139,13 @@ module _ (id : FileId) (b : List ℕ) (tail : Part) (a : Appended id b tail) whe
           λ i. record { id = id; rewritten = false; last = last i; cut = 0; floor = 0; size = four_at 56 (take 64 b); entries = a.entries ++ new; gate = gate i }
 
 -- a part has the id of its file
-pub parse_id : (id : FileId) (b : List ℕ) (q : Part) → parse id b ≡ Whole q → q.id ≡ id
-parse_id id b q whole = ⊎_elim
-    (λ opens. wrong (first_wrong (descriptor_fields id) (take 64 b)) (sym (parse_opens id b opens) ∙ whole))
-    (λ shuts. absurd (cc (parse_shut id b shuts, whole)))
-    (cases_Bool (is_open b))
-  where
-    by_appended : (w : Walk) → appended_part id (take 64 b) w ≡ Whole q → q.id ≡ id
-    by_appended (Fails p) is = absurd (cc)
-    by_appended (Ends es g) is = let e : the_part id (take 64 b) es g ≡ q = cc in ap (λ (p : Part). p.id) (sym e)
-
-    wrong : (o : Option ℕ) → described id (take 64 b) (drop 64 b) o ≡ Whole q → q.id ≡ id
-    wrong (Some p) is = absurd (cc)
-    wrong None is = by_appended _ is
+pub parse_id : (id : FileId) (b : List ℕ) (q : Part) → counts_as id b ≡ Whole q → q.id ≡ id
+parse_id id b q whole = ap (λ (p : Part). p.id) (appended id b q whole).is
 
 -- a file with the frame whole or absent is the part with its entries or without
 pub outcome : (id : FileId) (b : List ℕ) (tail : Part) (gate : ℕ) (fb : List ℕ) (new : Numbered) (c : List ℕ)
-    → parse id b ≡ Whole tail → tail.gate ≡ gate → frame is_next frame_room tail.last fb ≡ Framed new (length fb) → gate < length b
-    → IsWholeOrAbsent b gate (then_shut fb) c → (parse id c ≡ Whole tail) ⊎ (parse id c ≡ Whole (grown tail new (1 + length fb)))
+    → counts_as id b ≡ Whole tail → tail.gate ≡ gate → frame is_next frame_room tail.last fb ≡ Framed new (length fb) → gate < length b
+    → IsWholeOrAbsent b gate (then_shut fb) c → (counts_as id c ≡ Whole tail) ⊎ (counts_as id c ≡ Whole (grown tail new (1 + length fb)))
 outcome id b tail gate fb new c whole gate_is is_frame lt alt = ⊎_elim absent present alt
   where
     a : Appended id b tail
@@ -137,7 +154,7 @@ outcome id b tail gate fb new c whole gate_is is_frame lt alt = ⊎_elim absent 
     at : gate ≡ 64 + a.gate
     at = sym gate_is ∙ ap (λ (p : Part). p.gate) a.is
 
-    absent : take (gate + 1) c ≡ take (gate + 1) b → (parse id c ≡ Whole tail) ⊎ (parse id c ≡ Whole (grown tail new (1 + length fb)))
+    absent : take (gate + 1) c ≡ take (gate + 1) b → (counts_as id c ≡ Whole tail) ⊎ (counts_as id c ≡ Whole (grown tail new (1 + length fb)))
     absent same =
         let long : gate < length c = omega (arith, lt, length-take (gate + 1) b, length-take (gate + 1) c, ap length same) in
         let front : take gate c ≡ take gate b = sym (take-take gate (gate + 1) c (omega arith)) ∙ ap (λ (l : List ℕ). take gate l) same ∙ take-take gate (gate + 1) b (omega arith) in
@@ -147,7 +164,7 @@ outcome id b tail gate fb new c whole gate_is is_frame lt alt = ⊎_elim absent 
         let shut : nat_eq (get_or c gate 0) 1 ≡ false = ap (λ (x : ℕ). nat_eq x 1) (byte ∙ ap (λ (k : ℕ). get_or b k 0) at) ∙ gate_shut id b tail a in
         inl (without id b tail a c (get_or c gate 0) (drop (gate + 1) c) (split ∙ ap (λ (k : ℕ). take k b ++ get_or c gate 0 ∷ drop (gate + 1) c) at) shut)
 
-    present : (x : ℕ) × (c ≡ written b gate (x ∷ then_shut fb)) → (parse id c ≡ Whole tail) ⊎ (parse id c ≡ Whole (grown tail new (1 + length fb)))
+    present : (x : ℕ) × (c ≡ written b gate (x ∷ then_shut fb)) → (counts_as id c ≡ Whole tail) ⊎ (counts_as id c ≡ Whole (grown tail new (1 + length fb)))
     present w =
         let D = drop (gate + length (w.0 ∷ then_shut fb)) b in
         let spread : c ≡ take (64 + a.gate) b ++ w.0 ∷ (then_shut fb ++ D) =
@@ -163,8 +180,8 @@ outcome id b tail gate fb new c whole gate_is is_frame lt alt = ⊎_elim absent 
 
 -- with the frame whole it is the part with its entries
 pub outcome_whole : (id : FileId) (b : List ℕ) (tail : Part) (gate : ℕ) (fb : List ℕ) (new : Numbered)
-    → parse id b ≡ Whole tail → tail.gate ≡ gate → frame is_next frame_room tail.last fb ≡ Framed new (length fb)
-    → parse id (written b gate (1 ∷ then_shut fb)) ≡ Whole (grown tail new (1 + length fb))
+    → counts_as id b ≡ Whole tail → tail.gate ≡ gate → frame is_next frame_room tail.last fb ≡ Framed new (length fb)
+    → counts_as id (written b gate (1 ∷ then_shut fb)) ≡ Whole (grown tail new (1 + length fb))
 outcome_whole id b tail gate fb new whole gate_is is_frame =
     let a = appended id b tail whole in
     let at : gate ≡ 64 + a.gate = sym gate_is ∙ ap (λ (p : Part). p.gate) a.is in

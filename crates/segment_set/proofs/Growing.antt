@@ -6,8 +6,8 @@ use Rattle.disk_model.specs.Image.{Place, Image, place}
 use Rattle.disk_model.specs.View.{View, MayHold, MayLeave, Reads, IsSound, LeavesAt, LeavesOnly}
 use Rattle.disk_model.proofs.Moments.{weaker}
 use Rattle.segment_files.specs.Files.{IsAtGate, OrFrame, IsWholeOrAbsent, Becomes, appended, then_shut}
-use Rattle.segment_files.specs.Parse.{Numbered, Part, Closed, Whole, Framed, frame, is_next, frame_room, parse}
-use Rattle.segment_files.specs.Folder.{found, folder, IsChoice, EachHas}
+use Rattle.segment_files.specs.Parse.{Numbered, Part, Closed, Whole, Framed, frame, is_next, frame_room}
+use Rattle.segment_files.specs.Folder.{counts_as, found, folder, IsChoice, EachHas}
 use Rattle.segment_set.specs.Growth.{grown, HasOrGains}
 use Rattle.segment_set.proofs.Images.{as_read, as_read_may, differ, kept_at, one_part, beside_part}
 use Rattle.segment_set.proofs.Appended.{parse_id, outcome, outcome_whole}
@@ -36,7 +36,7 @@ module _ (v : View) (name : List ℕ) (tail : Part) (gate : ℕ) (fb : List ℕ)
   abbrev more : Part
   more = grown tail new (1 + length fb)
 
-  bytes_whole : (b : List ℕ) → Reads v (place name tail.id) b → parse tail.id b ≡ Whole tail
+  bytes_whole : (b : List ℕ) → Reads v (place name tail.id) b → counts_as tail.id b ≡ Whole tail
   bytes_whole b reads = sym (ap (found tail.id) reads) ∙ a.whole
 
   -- an image of before but for the file
@@ -51,10 +51,10 @@ module _ (v : View) (name : List ℕ) (tail : Part) (gate : ℕ) (fb : List ℕ)
         (λ at. inr at)
         (differ v name tail.id c id)
 
-    same_part : parse tail.id d ≡ Whole tail → IsChoice (folder name c) (tail ∷ [])
+    same_part : counts_as tail.id d ≡ Whole tail → IsChoice (folder name c) (tail ∷ [])
     same_part absent = one_part (folder name c) tail (ap (found tail.id) is ∙ absent) closed_beside
 
-    more_entries : parse tail.id d ≡ Whole (grown tail new (1 + length fb)) → IsChoice (folder name c) (grown tail new (1 + length fb) ∷ [])
+    more_entries : counts_as tail.id d ≡ Whole (grown tail new (1 + length fb)) → IsChoice (folder name c) (grown tail new (1 + length fb) ∷ [])
     more_entries present = one_part (folder name c) (grown tail new (1 + length fb)) (ap (found tail.id) is ∙ present) closed_beside
 
     with_frame : (b : List ℕ) → Reads v (place name tail.id) b → gate < length b → IsWholeOrAbsent b gate (then_shut fb) d → HasOrGains name tail new (1 + length fb) c
@@ -79,7 +79,7 @@ module _ (v : View) (name : List ℕ) (tail : Part) (gate : ℕ) (fb : List ℕ)
   appending e each left = weaker v e (λ c. (q : Place) → OrFrame v (place name tail.id) gate (then_shut fb) q (c q)) (HasOrGains name tail new (1 + length fb)) left (during each)
 
   -- in the end
-  whole_after : parse tail.id (appended a.at_gate.bytes gate (then_shut fb)) ≡ Whole (grown tail new (1 + length fb))
+  whole_after : counts_as tail.id (appended a.at_gate.bytes gate (then_shut fb)) ≡ Whole (grown tail new (1 + length fb))
   whole_after = outcome_whole tail.id a.at_gate.bytes tail gate fb new (bytes_whole a.at_gate.bytes a.at_gate.reads) a.gate_is a.is_frame
 
   pub reads_after : (e : View) → Becomes v e (place name tail.id) (appended a.at_gate.bytes gate (then_shut fb)) → folder name e.reading tail.id ≡ Whole (grown tail new (1 + length fb))

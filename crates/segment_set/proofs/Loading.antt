@@ -7,8 +7,8 @@ use Rattle.disk_model.specs.View.{View, MayHold, Reads, IsListed, IsSettled, IsS
 use Rattle.disk_model.specs.Calls.{Lists}
 use Rattle.disk_model.proofs.Names.{holds_now}
 use Rattle.segment_files.specs.Files.{HasNames, IsAtGate}
-use Rattle.segment_files.specs.Parse.{Part, Closed, Whole, parse}
-use Rattle.segment_files.specs.Folder.{Folder, found, folder, IsChoice, EachHas}
+use Rattle.segment_files.specs.Parse.{Part, Closed, Whole}
+use Rattle.segment_files.specs.Folder.{counts_as, Folder, found, folder, IsChoice, EachHas}
 use Rattle.segment_set.specs.Fits.{IsEmptyWhereNone}
 use Rattle.segment_set.specs.Load.{AreListed, OrGone, Surveyed, IsLikeBefore}
 use Rattle.segment_set.proofs.Images.{one_part, no_part}
@@ -17,7 +17,7 @@ use Rattle.segment_set.proofs.Growing.{folder_id}
 use Rattle.segment_set.proofs.Picking.{settled_has, settled_after, has_after, narrow, like_at_first, like_still, like_removed}
 
 -- the gate of a part is shut, and lies in the file
-pub shut_gate : (id : FileId) (b : List ℕ) (p : Part) → parse id b ≡ Whole p → (p.gate < length b) × (get_or b p.gate 0 ≢ 1)
+pub shut_gate : (id : FileId) (b : List ℕ) (p : Part) → counts_as id b ≡ Whole p → (p.gate < length b) × (get_or b p.gate 0 ≢ 1)
 shut_gate id b p whole =
     let a = appended id b p whole in
     let at : p.gate ≡ 64 + a.gate = ap (λ (q : Part). q.gate) a.is in
@@ -25,10 +25,10 @@ shut_gate id b p whole =
     (omega (arith, at, lt), λ one. absurd (cc (gate_shut id b p a, eq-eqb (get_or b (64 + a.gate) 0) 1 (ap (λ (k : ℕ). get_or b k 0) (sym at) ∙ one))))
 
 -- the bytes of a part's file
-pub bytes_of_whole : (v : View) (name : List ℕ) (id : FileId) (p : Part) → folder name v.reading id ≡ Whole p → (b : List ℕ) × Reads v (place name id) b × (parse id b ≡ Whole p)
+pub bytes_of_whole : (v : View) (name : List ℕ) (id : FileId) (p : Part) → folder name v.reading id ≡ Whole p → (b : List ℕ) × Reads v (place name id) b × (counts_as id b ≡ Whole p)
 bytes_of_whole v name id p whole = at (v.reading (place name id)) refl whole
   where
-    at : (o : Option (List ℕ)) → v.reading (place name id) ≡ o → found id o ≡ Whole p → (b : List ℕ) × Reads v (place name id) b × (parse id b ≡ Whole p)
+    at : (o : Option (List ℕ)) → v.reading (place name id) ≡ o → found id o ≡ Whole p → (b : List ℕ) × Reads v (place name id) b × (counts_as id b ≡ Whole p)
     at None is w = absurd (cc w)
     at (Some b) is w = (b, is, w)
 

@@ -6,13 +6,13 @@ use Rattle.disk_model.specs.Image.{Place, Image, place}
 use Rattle.disk_model.specs.View.{View, MayHold, MayLeave, IsSound, LeavesAt, LeavesOnly}
 use Rattle.disk_model.proofs.Moments.{has_now, weaker}
 use Rattle.segment_files.specs.Files.{OrClosed, OrWhole, Becomes, IsAtGate, then_shut}
-use Rattle.segment_files.specs.Parse.{Part, Closed, Whole, parse}
-use Rattle.segment_files.specs.Folder.{found, folder, IsChoice, EachHas}
+use Rattle.segment_files.specs.Parse.{Part, Closed, Whole}
+use Rattle.segment_files.specs.Folder.{counts_as, found, folder, IsChoice, EachHas}
 use Rattle.segment_set.specs.Growth.{HasNoneOr}
 use Rattle.segment_set.proofs.Images.{as_read, as_read_may, differ, kept_at, one_part, no_part, all_closed}
 use Rattle.segment_set.proofs.Appended.{parse_id, parse_shut}
 
-module _ (v : View) (name : List ℕ) (id : FileId) (behind : List ℕ) (new : Part) (sound : IsSound v) (whole : parse id (1 ∷ behind) ≡ Whole new) where
+module _ (v : View) (name : List ℕ) (id : FileId) (behind : List ℕ) (new : Part) (sound : IsSound v) (whole : counts_as id (1 ∷ behind) ≡ Whole new) where
   new_id : new.id ≡ id
   new_id = parse_id id (1 ∷ behind) new whole
 

@@ -8,8 +8,9 @@ use Rattle.disk_model.specs.declared.file_id.FileId.{FileId}
 use Rattle.segment_files.specs.Numbers.{four_at}
 use Rattle.entry_codec.specs.Reading.{Spelling, Spells, Spoils, spelling}
 use Rattle.host_types.specs.Limits.{last_limit}
-use Rattle.segment_files.proofs.Bodies.{next_index}
-use Rattle.segment_files.specs.Parse.{Numbered, Part, Whole, Body, Holds, Breaks, with_entry, is_misplaced, spelled_first, first_of, body, Framed, Crooked, framed, frame, is_next, frame_room, parse}
+use Rattle.segment_files.proofs.Bodies.{next_follows}
+use Rattle.segment_files.specs.Folder.{counts_as}
+use Rattle.segment_files.specs.Parse.{Numbered, Part, Whole, Body, Holds, Breaks, with_entry, is_misplaced, spelled_first, first_of, body, Framed, Crooked, framed, frame, is_next, frame_room}
 use Rattle.segment_set.specs.Fits.{bare}
 use Rattle.segment_set.proofs.Walks.{Walked, By_byte, At_gate, By_frame, walked, frame_form}
 use Rattle.segment_set.proofs.Appended.{appended}
@@ -82,7 +83,7 @@ body_follows (suc room) before (b ∷ bytes) es is = placed (λ k m c. body_foll
     first : All → is_misplaced is_next before (b ∷ bytes) ≡ false → (s : Spelling) → spelling (b ∷ bytes) ≡ s → spelled_first s (λ index size. body is_next room index (drop size (b ∷ bytes))) ≡ Holds es → Follows before es
     first all stands (Spoils p) s_is is = absurd (cc)
     first all stands (Spells index entry size) s_is is =
-        behind all index entry size (next_is before index (next_index (b ∷ bytes) before stands index entry size s_is)) (body is_next room index (drop size (b ∷ bytes))) refl is
+        behind all index entry size (next_is before index (next_follows is_next (b ∷ bytes) before stands index entry size s_is)) (body is_next room index (drop size (b ∷ bytes))) refl is
 
     placed : All → (t : Bool) → is_misplaced is_next before (b ∷ bytes) ≡ t
         → (if t then Breaks 0 else spelled_first (spelling (b ∷ bytes)) (λ index size. body is_next room index (drop size (b ∷ bytes)))) ≡ Holds es → Follows before es
@@ -130,7 +131,7 @@ pub record IsPlain (id : FileId) (p : Part) : Type 0 where
   pub floor : p.floor ≡ 0
   pub numbered : Follows (id.base - 1) p.entries
 
-pub plain_part : (id : FileId) (b : List ℕ) (p : Part) → parse id b ≡ Whole p → IsPlain id p
+pub plain_part : (id : FileId) (b : List ℕ) (p : Part) → counts_as id b ≡ Whole p → IsPlain id p
 plain_part id b p whole =
     let a = appended id b p whole in
     let entries : p.entries ≡ a.entries = ap (λ (q : Part). q.entries) a.is in

@@ -1,5 +1,5 @@
 -- One file more of a folder is looked at.
-use Rattle.std.proofs.Common.{◌≡◌, inl, ⊎_elim, ℕ, ◌+◌, ◌<◌, Bool, true, false, IsTrue, List, [], ◌∷◌, ◌++◌, length, take, get_or, Option, Some, None, is_some, refl, sym, ap, subst, ◌∙◌, Contains, All}
+use Rattle.std.proofs.Common.{◌≡◌, inl, ⊎_elim, ℕ, ◌+◌, ◌<◌, Bool, true, false, if◌then◌else◌, IsTrue, List, [], ◌∷◌, ◌++◌, length, take, get_or, Option, Some, None, is_some, refl, sym, ap, subst, ◌∙◌, Contains, All}
 use Rattle.std.proofs.lemmas.List.{take_more}
 use Rattle.std.proofs.lemmas.List.Elements.{All-get_or, All-push}
 use Rattle.disk_model.specs.declared.file_id.FileId.{FileId}
@@ -9,7 +9,8 @@ use Rattle.disk_model.specs.Calls.{Lists}
 use Rattle.disk_model.proofs.Moments.{goes_further, weaker}
 use Rattle.disk_model.proofs.Names.{holds_now}
 use Rattle.segment_files.specs.Parse.{Part, Found, Closed, Whole, Damaged, parse}
-use Rattle.segment_files.specs.Folder.{Folder, folder, found, IsDamagedAt, IsFirstDamaged}
+use Rattle.segment_files.specs.declared.descriptor.Descriptor.{Descriptor}
+use Rattle.segment_files.specs.Folder.{appended_only, counts_as, kind_place, Folder, folder, found, IsDamagedAt, IsFirstDamaged}
 use Rattle.segment_files.specs.Contents.{Shows, StandAt, IsFound}
 use Rattle.segment_files.specs.declared.reading.Part.{Part as Scanned}
 use Rattle.segment_files.specs.declared.reading.Found.TheVariants.{Part as Is_part}
@@ -18,25 +19,38 @@ use Rattle.segment_set.specs.declared.opening.OpenError.TheVariants.{Damaged as 
 use Rattle.segment_set.specs.Load.{Adds, Surveyed, IsLooked, IsOf, IsSeenDamaged, OpenedIs, opened_id, id_from}
 use Rattle.segment_set.proofs.Surveying.{one_closed, one_open, ahead_fresh, first_damaged, second_open}
 
--- a scan that tells a part
-found_part : (id : FileId) (b : List ℕ) (s : Scanned) → IsFound b (Is_part s) (parse id b) → (p : Part) × (parse id b ≡ Whole p) × Shows s p × StandAt b p s.offsets.items
-found_part id b s is = at (parse id b) refl is
+-- a scan that tells a part, which no compaction wrote
+found_part : (id : FileId) (b : List ℕ) (s : Scanned) → s.descriptor.rewritten ≡ false → IsFound b (Is_part s) (parse id b) → (p : Part) × (counts_as id b ≡ Whole p) × Shows s p × StandAt b p s.offsets.items
+found_part id b s plain is = at (parse id b) refl is
   where
-    at : (f : Found) → parse id b ≡ f → IsFound b (Is_part s) f → (p : Part) × (parse id b ≡ Whole p) × Shows s p × StandAt b p s.offsets.items
+    at : (f : Found) → parse id b ≡ f → IsFound b (Is_part s) f → (p : Part) × (counts_as id b ≡ Whole p) × Shows s p × StandAt b p s.offsets.items
     at Closed e h = absurd h
-    at (Whole p) e h = (p, e, h.0, h.1)
+    at (Whole p) e h =
+        let same : p.rewritten ≡ false = sym (ap (λ (d : Descriptor). d.rewritten) h.0.descriptor) ∙ plain in
+        (p, ap appended_only e ∙ ap (λ (t : Bool). if t then Damaged kind_place else Whole p) same, h.0, h.1)
     at (Damaged n) e h = absurd h
 
 -- in an image that has the file
-pub part_in : (name : List ℕ) (image : Image) (id : FileId) (b : List ℕ) (s : Scanned) → image (place name id) ≡ Some b → IsFound b (Is_part s) (parse id b)
+pub part_in : (name : List ℕ) (image : Image) (id : FileId) (b : List ℕ) (s : Scanned) → s.descriptor.rewritten ≡ false → image (place name id) ≡ Some b → IsFound b (Is_part s) (parse id b)
     → (p : Part) × (folder name image id ≡ Whole p) × Shows s p × ((bytes : List ℕ) → image (place name id) ≡ Some bytes → StandAt bytes p s.offsets.items)
-part_in name image id b s reads is =
-    let p = found_part id b s is in (
+part_in name image id b s plain reads is =
+    let p = found_part id b s plain is in (
       p.0,
       ap (found id) reads ∙ p.1,
       p.2,
       λ bytes now. let same : b ≡ bytes = cc (reads, now) in subst (λ (l : List ℕ). StandAt l p.0 s.offsets.items) same p.3,
     )
+
+-- a scan that tells a part that a compaction wrote: it counts as damaged where it says so
+pub rewritten_in : (name : List ℕ) (image : Image) (id : FileId) (b : List ℕ) (s : Scanned) → s.descriptor.rewritten ≡ true → image (place name id) ≡ Some b → IsFound b (Is_part s) (parse id b) → folder name image id ≡ Damaged kind_place
+rewritten_in name image id b s kind reads is = ap (found id) reads ∙ at (parse id b) refl is
+  where
+    at : (f : Found) → parse id b ≡ f → IsFound b (Is_part s) f → counts_as id b ≡ Damaged kind_place
+    at Closed e h = absurd h
+    at (Whole p) e h =
+        let same : p.rewritten ≡ true = sym (ap (λ (d : Descriptor). d.rewritten) h.0.descriptor) ∙ kind in
+        ap appended_only e ∙ ap (λ (t : Bool). if t then Damaged kind_place else Whole p) same
+    at (Damaged n) e h = absurd h
 
 pub left_further : (v0 v w : View) → IsSound v → LeavesAt v0 v (MayHold v0) → LeavesAt v w (MayHold v) → LeavesAt v0 w (MayHold v0)
 left_further v0 v w sound so_far more =

@@ -4,7 +4,7 @@ use Rattle.std.proofs.lemmas.List.{take-take, take-append-le, drop-take, append-
 use Rattle.std.proofs.lemmas.Bool.{ltb-false, le-ltb, eqb-true}
 use Rattle.std.specs.Int.{w32, from_be_bytes}
 use Rattle.segment_files.specs.Numbers.{four_at, number_at}
-use Rattle.segment_files.specs.Parse.{Numbered, Follows, Body, Holds, Breaks, body, Frame, Framed, Crooked, framed, frame, Walk, Ends, Fails, behind_byte, behind_frame, go_on, is_next, frame_room, appended_walk}
+use Rattle.segment_files.specs.Parse.{Numbered, Follows, Body, Holds, Breaks, body, Frame, Framed, Crooked, framed, frame, Walk, Ends, Fails, behind_byte, behind_frame, go_on, is_next, frame_room, appended_walk, walk}
 
 -- a frame by its size, the bytes that are there, and its body
 abbrev form : ℕ → ℕ → Body → Frame
@@ -106,19 +106,19 @@ extended_frame ahead es g (Ends more at) = ap (λ (k : ℕ). Ends (ahead ++ (es 
 extended_frame ahead es g (Fails at) = ap (λ (k : ℕ). Fails k) (omega arith)
 
 walk_skip : (k before b : ℕ) (l : List ℕ) → appended_walk (suc k) before (b ∷ l) ≡ behind_byte (appended_walk k before l)
-unfolding appended_walk
+unfolding walk
 walk_skip k before b l = refl
 
 walk_open : (before : ℕ) (l : List ℕ) → appended_walk 0 before (1 ∷ l) ≡ go_on (frame is_next frame_room before l) (λ entries size. appended_walk size (before + length entries) l)
-unfolding appended_walk
+unfolding walk
 walk_open before l = refl
 
 pub walk_shut : (before b : ℕ) (l : List ℕ) → nat_eq b 1 ≡ false → appended_walk 0 before (b ∷ l) ≡ Ends [] 0
-unfolding appended_walk
+unfolding walk
 walk_shut before b l is = ap (λ (t : Bool). if t then go_on (frame is_next frame_room before l) (λ entries size. appended_walk size (before + length entries) l) else Ends [] 0) is
 
 walk_none : (skip before : ℕ) → appended_walk skip before [] ≡ Fails 0
-unfolding appended_walk
+unfolding walk
 walk_none zero before = refl
 walk_none (suc skip) before = refl
 

@@ -17,5 +17,5 @@ pub struct Opened {
     ghost last_is: { part.last ≡ id.base - 1 + length part.offsets.items },
     ghost gate_in_range: { part.gate ≤ 64 + 8388613 * length part.offsets.items },
     ghost few: { length part.offsets.items ≤ 4294967295 },
-    ghost below: { AreBelow part.offsets.items part.gate },
+    ghost below: { AreBelow id.base part.last part.offsets.items part.gate },
 }

@@ -34,6 +34,9 @@ pub enum OpenError {
 /// Where the base stands in a file.
 const BASE_PLACE: u64 = 16;
 
+/// Where a file says that a compaction wrote it. No log is opened with such a file yet.
+const KIND_PLACE: u64 = 2;
+
 /// What the files of a name were found to be.
 #[derive(Drop)]
 struct Survey {
@@ -92,7 +95,8 @@ fn disk_error(fault: DiskFault) -> OpenError
     }
 }
 
-/// Reads one file: its part, or none where it is closed. A second open file counts as damaged at its base.
+/// Reads one file: its part, or none where it is closed. A file that a compaction wrote counts as damaged where it says so, and a
+/// second open file at its base.
 fn look<D: Disk>(
     alloc: Global,
     disk: &mut D,
@@ -113,6 +117,10 @@ fn look<D: Disk>(
     match scan(alloc, disk, name, id) {
         Ok(Found::Closed) => Ok(None),
         Ok(Found::Part(part)) => {
+            if part.descriptor.rewritten {
+                drop(part);
+                return Err(damaged(id, KIND_PLACE));
+            }
             if has_open {
                 drop(part);
                 return Err(damaged(id, BASE_PLACE));
@@ -163,7 +171,7 @@ fn tail_of(alloc: Global, opened: Option<Opened>) -> Result<(Option<Tail>, Offse
     ensures ok { IfOk result (λ found. IsTailFound opened found.0) }
     ensures offsets { IfOk result (λ found. AreOffsetsOf opened found.1.items) }
     ensures counted { IfOk result (λ found. length found.1.items ≡ tail_last found.0) }
-    ensures below { IfOk result (λ found. AreBelow found.1.items (tail_gate found.0)) }
+    ensures below { IfOk result (λ found. AreBelow 1 (tail_last found.0) found.1.items (tail_gate found.0)) }
     ensures damaged { (base generation at : ℕ) → IsErrOf result (OpenError.Damaged base generation at)
         → (one : Opened) × (opened ≡ Some one) × IsOf base generation one.id × (at ≡ base_place) × (one.id.base ≢ 1) }
     ensures disk { IsErrOf result OpenError.Disk → ⊥ }

@@ -23,5 +23,5 @@ pub struct Parts {
     pub greatest: u64,
     ghost in_range: { greatest ≤ 281474976710655 },
     ghost counted: { length offsets.items ≡ tail_last tail },
-    ghost below: { AreBelow offsets.items (tail_gate tail) },
+    ghost below: { AreBelow 1 (tail_last tail) offsets.items (tail_gate tail) },
 }

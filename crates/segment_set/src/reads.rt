@@ -1,7 +1,6 @@
 // An entry of a log is read from its file.
-ghost use Rattle.std.specs.Prelude.{◌≡◌, ◌<◌, ◌≤◌, ◌+◌, ◌⊎◌, ◌↔◌, ℕ, nat_lt, if◌then◌else◌, length, get_or, IsTrue, IfOk, IsErrOf, IsNone};
+ghost use Rattle.std.specs.Prelude.{◌≡◌, ◌<◌, ◌≤◌, ◌+◌, ◌⊎◌, ◌↔◌, ℕ, nat_lt, if◌then◌else◌, All, length, get_or, IsTrue, IfOk, IsErrOf, IsNone};
 ghost use Rattle.disk_model.specs.Calls.{Looks};
-ghost use Rattle.segment_files.specs.Contents.{AreBelow};
 ghost use Rattle.segment_files.specs.Folder.{entries_of};
 ghost use Rattle.segment_set.specs.Fits.{Fits, IsEntryAt, MayBeRead, last_of, parts_in};
 ghost use Rattle.segment_set.specs.Load.{HasOpenCause};
@@ -17,7 +16,7 @@ use std::alloc::Global;
 /// Where the entry at this position begins, and where the next one may begin at the earliest.
 fn span(offsets: &Offsets, n: usize, gate: u64) -> (u64, u64)
     requires here { n < length offsets.now.items }
-    requires gate { AreBelow offsets.now.items gate }
+    requires gate { All (λ p. p.1 < gate) offsets.now.items }
     ensures order { result.0 ≤ result.1 }
     ensures from { (d : ℕ × ℕ) → (get_or offsets.now.items n d).1 ≡ result.0 }
     ensures to { (d : ℕ × ℕ) → result.1 ≡ (if nat_lt (n + 1) (length offsets.now.items) then (get_or offsets.now.items (n + 1) d).1 else gate) }

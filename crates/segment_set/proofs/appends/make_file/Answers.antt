@@ -2,7 +2,8 @@ use Rattle.std.proofs.Common.{◌≡◌, ℕ, List, [], ◌∷◌, ◌++◌, ap,
 use Rattle.std.proofs.lemmas.Result.{on_ok_weaker}
 use Rattle.disk_model.specs.Image.{place}
 use Rattle.segment_files.specs.Files.{then_shut, Becomes}
-use Rattle.segment_files.specs.Parse.{Whole, parse}
+use Rattle.segment_files.specs.Folder.{appended_only, counts_as}
+use Rattle.segment_files.specs.Parse.{Whole}
 use Rattle.segment_files.specs.Contents.{appended_descriptor, descriptor_bytes}
 use Rattle.segment_files.proofs.FrameLemmas.{tail_read}
 use Rattle.segment_set.specs.Growth.{new_tail}
@@ -17,7 +18,7 @@ returns-clause-made g c =
     let id = c.args.id in
     let behind = c.behind_gate-behind.result in
     let is : 1 ∷ behind ≡ descriptor_bytes (appended_descriptor id c.args.size) ++ 0 ∷ [] = c.behind_gate-behind.ensures in
-    let whole : parse id (1 ∷ behind) ≡ Whole (new_tail id c.args.size) = ap (parse id) is ∙ tail_read id c.args.size c.requires.id c.requires.least c.requires.most [] in
+    let whole : counts_as id (1 ∷ behind) ≡ Whole (new_tail id c.args.size) = ap (counts_as id) is ∙ ap appended_only (tail_read id c.args.size c.requires.id c.requires.least c.requires.most []) in
     let shut : 1 ∷ behind ≡ 1 ∷ then_shut (drop 1 (descriptor_bytes (appended_descriptor id c.args.size))) = is in
     on_ok_weaker c.make_tail.result
     (λ made t. record {
@@ -32,7 +33,7 @@ returns-clause-any_moment g c = λ t each.
     let e = g.D.Disk.view c.make_tail.new.disk in
     let id = c.args.id in
     let behind = c.behind_gate-behind.result in
-    let whole : parse id (1 ∷ behind) ≡ Whole (new_tail id c.args.size) = ap (parse id) c.behind_gate-behind.ensures ∙ tail_read id c.args.size c.requires.id c.requires.least c.requires.most [] in
+    let whole : counts_as id (1 ∷ behind) ≡ Whole (new_tail id c.args.size) = ap (counts_as id) c.behind_gate-behind.ensures ∙ ap appended_only (tail_read id c.args.size c.requires.id c.requires.least c.requires.most []) in
     tailing v c.args.name.now id behind (new_tail id c.args.size) (g.met.D.Disk.sound c.args.disk.now t) whole e each (c.make_tail.ensures.writes.any_moment t)
 
 pub returns-clause-held : goal.returns-clause-held
@@ -41,7 +42,7 @@ returns-clause-held g c =
     let e = g.D.Disk.view c.make_tail.new.disk in
     let id = c.args.id in
     let behind = c.behind_gate-behind.result in
-    let whole : parse id (1 ∷ behind) ≡ Whole (new_tail id c.args.size) = ap (parse id) c.behind_gate-behind.ensures ∙ tail_read id c.args.size c.requires.id c.requires.least c.requires.most [] in
+    let whole : counts_as id (1 ∷ behind) ≡ Whole (new_tail id c.args.size) = ap (counts_as id) c.behind_gate-behind.ensures ∙ ap appended_only (tail_read id c.args.size c.requires.id c.requires.least c.requires.most []) in
     on_ok_weaker c.make_tail.result
     (λ made t each. tailed v c.args.name.now id behind (new_tail id c.args.size) (g.met.D.Disk.sound c.args.disk.now t) whole e each (made t))
     c.make_tail.ensures.whole
@@ -52,5 +53,5 @@ returns-clause-unlisted g c = λ t each none.
     let e = g.D.Disk.view c.make_tail.new.disk in
     let id = c.args.id in
     let behind = c.behind_gate-behind.result in
-    let whole : parse id (1 ∷ behind) ≡ Whole (new_tail id c.args.size) = ap (parse id) c.behind_gate-behind.ensures ∙ tail_read id c.args.size c.requires.id c.requires.least c.requires.most [] in
+    let whole : counts_as id (1 ∷ behind) ≡ Whole (new_tail id c.args.size) = ap (counts_as id) c.behind_gate-behind.ensures ∙ ap appended_only (tail_read id c.args.size c.requires.id c.requires.least c.requires.most []) in
     still_none v c.args.name.now id behind (new_tail id c.args.size) (g.met.D.Disk.sound c.args.disk.now t) whole e (g.met.D.Disk.sound c.make_tail.new.disk t) each (c.make_tail.ensures.unlisted t none)

@@ -16,8 +16,8 @@ push_frame-requires-clause-fits g c = λ t. tail_fits (g.D.Disk.view c.args.disk
 count_is : (os : Offset_list) (old : Option Tail) (tail : Tail) → old ≡ Some tail → length os ≡ tail_last old → length os ≡ tail.last
 count_is os old tail is count = count ∙ ap tail_last is
 
-below_is : (os : Offset_list) (old : Option Tail) (tail : Tail) → old ≡ Some tail → AreBelow os (tail_gate old) → AreBelow os tail.gate
-below_is os old tail is below = subst (λ (o : Option Tail). AreBelow os (tail_gate o)) is below
+below_is : (os : Offset_list) (old : Option Tail) (tail : Tail) → old ≡ Some tail → AreBelow 1 (tail_last old) os (tail_gate old) → AreBelow 1 tail.last os tail.gate
+below_is os old tail is below = subst (λ (o : Option Tail). AreBelow 1 (tail_last o) os (tail_gate o)) is below
 
 pub note-requires-clause-rises : goal.note-requires-clause-rises
 note-requires-clause-rises g c =
