@@ -1,6 +1,7 @@
 pub mod Advancing
 pub mod Appended
 pub mod AreLogs
+pub mod Chosen
 pub mod Emptied
 pub mod Faultless
 pub mod Frames
@@ -10,6 +11,7 @@ pub mod Images
 pub mod Loaded
 pub mod Leaving
 pub mod Loading
+pub mod Lying
 pub mod Names
 pub mod NewTail
 pub mod Numbering
@@ -19,6 +21,7 @@ pub mod Noting
 pub mod Pushing
 pub mod Removing
 pub mod Starting
+pub mod Sifting
 pub mod Surveying
 pub mod Turns
 pub mod Walks

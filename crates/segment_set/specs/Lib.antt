@@ -1,5 +1,7 @@
 pub mod Appends
+pub mod Choice
 pub mod Fits
 pub mod Growth
 pub mod Load
+pub mod Sifting
 pub mod Tails

@@ -2,6 +2,7 @@
 #![tactic(auto)]
 
 mod appends;
+mod choice;
 mod opened;
 mod opening;
 mod parts;
@@ -9,6 +10,8 @@ mod reads;
 mod removals;
 mod tail;
 
+pub use choice::{Choice, choose};
+pub use opened::Opened;
 pub use opening::OpenError;
 pub use parts::{GENERATION_LIMIT, Parts};
 pub use tail::Tail;

@@ -32,7 +32,7 @@ pub enum OpenError {
 }
 
 /// Where the base stands in a file.
-const BASE_PLACE: u64 = 16;
+pub(crate) const BASE_PLACE: u64 = 16;
 
 /// Where a file says that a compaction wrote it. No log is opened with such a file yet.
 const KIND_PLACE: u64 = 2;
@@ -63,7 +63,7 @@ impl Survey {
 }
 
 /// The fault of a file that isn't right at this place.
-fn damaged(id: FileId, at: u64) -> OpenError
+pub(crate) fn damaged(id: FileId, at: u64) -> OpenError
     ensures { result ≡ OpenError.Damaged id.base id.generation at }
 {
     OpenError::Damaged {

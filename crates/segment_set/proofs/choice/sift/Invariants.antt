@@ -1,0 +1,6 @@
+-- The files so far are sifted.
+use Rattle.segment_set.specs.Sifting.{Sifted}
+use Rattle.segment_set.proofs.choice.sift.Given as goal
+
+abbrev pub invariant-loop-one : goal.invariant-loop-one
+invariant-loop-one l = Sifted l.yielded l.choice.kept.items l.choice.covered.items l.choice.kept.items
