@@ -8,6 +8,7 @@ pub mod Frames
 pub mod Gaining
 pub mod Growing
 pub mod Images
+pub mod LawProofs
 pub mod Loaded
 pub mod Leaving
 pub mod Loading
@@ -23,5 +24,6 @@ pub mod Removing
 pub mod Starting
 pub mod Sifting
 pub mod Surveying
+pub mod Tiling
 pub mod Turns
 pub mod Walks

@@ -1,5 +1,6 @@
 pub mod Appends
 pub mod Choice
+pub mod ChoiceLaws
 pub mod Fits
 pub mod Growth
 pub mod Load

@@ -1,7 +1,5 @@
 // Which of the files with an open gate are the parts of a log.
-ghost use Rattle.std.specs.Prelude.{◌≡◌, ◌≢◌, ◌↔◌, ◌≤◌, ◌+◌, ℕ, List, [], ◌∷◌, ◌++◌, IsTrue, IfOk, OnOk, IsErrOf, IfSome, IfNone, Contains};
-ghost use Rattle.disk_model.specs.declared.file_id.FileId.{FileId};
-ghost use Rattle.disk_model.specs.Image.{IsBelow};
+ghost use Rattle.std.specs.Prelude.{◌≡◌, ◌↔◌, ◌+◌, ℕ, List, [], ◌∷◌, ◌++◌, IsTrue, IfOk, OnOk, IsErrOf, IfSome, IfNone};
 ghost use Rattle.segment_files.specs.Parse.{base_place};
 ghost use Rattle.segment_files.specs.Folder.{Folder, Tiles};
 ghost use Rattle.segment_set.specs.declared.opened.Opened.{Opened};

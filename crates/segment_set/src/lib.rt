@@ -3,6 +3,7 @@
 
 mod appends;
 mod choice;
+mod laws;
 mod opened;
 mod opening;
 mod parts;
@@ -11,6 +12,11 @@ mod removals;
 mod tail;
 
 pub use choice::{Choice, choose};
+pub use laws::{
+    a_new_part_replaces, closed_files_change_nothing, parts_or_fault,
+    superseded_files_change_nothing, the_fault_is_determined, the_parts_are_determined,
+    the_parts_lie_in_none,
+};
 pub use opened::Opened;
 pub use opening::OpenError;
 pub use parts::{GENERATION_LIMIT, Parts};
