@@ -1,17 +1,16 @@
 -- The laws of the parts of a folder.
-use Rattle.std.proofs.Common.{◌≡◌, ◌≢◌, ◌⊎◌, inl, inr, ⊎_elim, ℕ, ◌≤◌, ◌<◌, Bool, true, false, List, [], ◌∷◌, ◌++◌, take, drop, Option, Some, None, refl, sym, ap, subst, ◌∙◌, arith, Contains, if◌then◌else◌}
+use Rattle.std.proofs.Common.{◌≡◌, ◌⊎◌, inl, inr, ⊎_elim, ℕ, Bool, true, false, List, ◌∷◌, ◌++◌, take, drop, Option, Some, None, refl, sym, ap, subst, ◌∙◌, arith, Contains, if◌then◌else◌}
 use Rattle.std.proofs.lemmas.List.Elements.{Contains-append_left, Contains-append_right, Contains-append_cases}
 use Rattle.std.proofs.lemmas.Bool.{cases_Bool, cases_lt}
 use Rattle.disk_model.specs.declared.file_id.FileId.{FileId}
 use Rattle.disk_model.specs.Image.{Image, IsBelow, place}
 use Rattle.segment_files.specs.Files.{is_open, open_bytes, opened}
 use Rattle.segment_files.specs.Parse.{Part, Closed, Whole, Damaged, parse_open}
-use Rattle.segment_files.specs.Folder.{Folder, found, folder, Tiles}
-use Rattle.segment_set.specs.Choice.{span, LiesIn, IsChoice, IsPart, IsFirstDamaged, IsUntiled, IsFault}
+use Rattle.segment_files.specs.Folder.{Folder, found, folder}
+use Rattle.segment_set.specs.Choice.{span, LiesIn, IsChoice, IsPart, IsUntiled, IsFault}
 use Rattle.segment_set.specs.ChoiceLaws.{AreParts, IsSuperseded, Replaces}
-use Rattle.segment_set.proofs.Images.{nothing, one_of, here}
+use Rattle.segment_set.proofs.Images.{one_of, here}
 use Rattle.segment_set.proofs.Lying.{further, there}
-use Rattle.segment_set.proofs.Picking.{below_apart}
 use Rattle.segment_set.proofs.Tiling.{from_next, to_last, apart, put_in, same_parts, next_begins}
 
 -- a file is what it is without its closed forms

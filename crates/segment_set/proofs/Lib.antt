@@ -5,6 +5,7 @@ pub mod Chosen
 pub mod Emptied
 pub mod Faultless
 pub mod Frames
+pub mod FolderExamples
 pub mod Gaining
 pub mod Growing
 pub mod Images
