@@ -8,6 +8,8 @@ mod cell_table_tests;
 #[cfg(test)]
 mod checks;
 #[cfg(test)]
+mod choice_tests;
+#[cfg(test)]
 mod commit_lending_tests;
 #[cfg(test)]
 mod counted_files;
