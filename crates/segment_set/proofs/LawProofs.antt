@@ -1,14 +1,15 @@
 -- The laws of the parts of a folder.
-use Rattle.std.proofs.Common.{◌≡◌, ◌⊎◌, inl, inr, ⊎_elim, ℕ, Bool, true, false, List, ◌∷◌, ◌++◌, take, drop, Option, Some, None, refl, sym, ap, subst, ◌∙◌, arith, Contains, if◌then◌else◌}
+use Rattle.std.proofs.Common.{◌≡◌, ◌⊎◌, inl, inr, ⊎_elim, ℕ, Bool, true, false, List, ◌∷◌, ◌++◌, Option, Some, None, refl, sym, ap, subst, ◌∙◌, arith, Contains, if◌then◌else◌}
 use Rattle.std.proofs.lemmas.List.Elements.{Contains-append_left, Contains-append_right, Contains-append_cases}
 use Rattle.std.proofs.lemmas.Bool.{cases_Bool, cases_lt}
 use Rattle.disk_model.specs.declared.file_id.FileId.{FileId}
 use Rattle.disk_model.specs.Image.{Image, IsBelow, place}
 use Rattle.segment_files.specs.Files.{is_open, open_bytes, opened}
-use Rattle.segment_files.specs.Parse.{Part, Closed, Whole, Damaged, parse_open}
+use Rattle.segment_files.specs.Parse.{Part, Closed, Whole, Damaged}
 use Rattle.segment_files.specs.Folder.{Folder, found, folder}
 use Rattle.segment_set.specs.Choice.{span, LiesIn, IsChoice, IsPart, IsUntiled, IsFault}
 use Rattle.segment_set.specs.ChoiceLaws.{AreParts, IsSuperseded, Replaces}
+use Rattle.segment_set.proofs.Appended.{parse_shut}
 use Rattle.segment_set.proofs.Images.{one_of, here}
 use Rattle.segment_set.proofs.Lying.{further, there}
 use Rattle.segment_set.proofs.Tiling.{from_next, to_last, apart, put_in, same_parts, next_begins}
@@ -22,7 +23,7 @@ found_opened id (Some b) = ⊎_elim (λ is. opens is) (λ is. shuts is) (cases_B
     opens is = ap (λ (t : Bool). found id (if t then Some b else None)) is
 
     shuts : is_open b ≡ false → found id (open_bytes (Some b)) ≡ found id (Some b)
-    shuts is = ap (λ (t : Bool). found id (if t then Some b else None)) is ∙ sym (ap (λ (t : Bool). if t then parse_open id (take 64 b) (drop 64 b) else Closed) is)
+    shuts is = ap (λ (t : Bool). found id (if t then Some b else None)) is ∙ sym (parse_shut id b is)
 
 pub folder_opened : (name : List ℕ) (c : Image) → folder name (opened c) ≡ folder name c
 folder_opened name c = λ i id. found_opened id (c (place name id)) i
