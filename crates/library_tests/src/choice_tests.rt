@@ -87,11 +87,12 @@ const APART: &[(&[File], Id)] = &[
     (&[(1, 1, 2), (4, 2, 5), (7, 3, 8)], (4, 2)),
 ];
 
-/// Where so many entries might stand.
-fn offsets_of(rt: &impl Abort, alloc: Global, count: u64) -> Offsets
-    requires { count ≤ 1000 }
+/// Where so many entries might stand, from a base on.
+fn offsets_of(rt: &impl Abort, alloc: Global, base: u64, count: u64) -> Offsets
+    requires few { count ≤ 1000 }
+    requires first { 1 ≤ base }
     ensures count { length result.items ≡ count }
-    ensures below { AreBelow result.items (64 + 10 * count) }
+    ensures below { AreBelow base (base - 1 + count) result.items (64 + 10 * count) }
 {
     let mut offsets = Offsets::new(alloc);
     for k in 0..count {
@@ -113,7 +114,7 @@ fn opened(rt: &impl Abort, alloc: Global, (base, generation, last): File) -> Ope
             descriptor: Descriptor::appended(id, 4),
             last,
             gate: 64 + 10 * count,
-            offsets: offsets_of(rt, alloc, count),
+            offsets: offsets_of(rt, alloc, base, count),
         },
     }
 }

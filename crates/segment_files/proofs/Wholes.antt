@@ -94,8 +94,7 @@ module _ (id : FileId) (bytes : List ℕ) (is : is_open bytes ≡ true) (right :
       by : (t : Bool) → is_rewritten head ≡ t → (part : Part) × (parse id bytes ≡ Whole part) × (part.id ≡ id) × IsOpened bytes part descriptor offsets gate
       by true t_is =
           let d = kind true t_is in
-          let many : length entries ≡ number_at Eight 48 head = subst (λ (r : Rule). Fills r (length entries)) (rule_is ∙ ap (λ (x : Bool). if x then Rewritten (number_at Eight last_place head) (number_at Eight 48 head) else Appended) t_is) fills in
-          (
+          let many : length entries ≡ number_at Eight 48 head = subst (λ (r : Rule). Fills r (length entries)) (rule_is ∙ ap (λ (x : Bool). if x then Rewritten (number_at Eight last_place head) (number_at Eight 48 head) else Appended) t_is) fills in (
             as_rewritten gate entries,
             is_whole gate entries true t_is le told,
             refl,

@@ -242,7 +242,15 @@ pub(crate) fn read_window(
             return Ok(shut_gate(rule, at));
         }
         let behind = place + at as u64 + 1;
-        match read_frame(alloc, rule, base, behind, &window[at + 1..], is_end, offsets)? {
+        match read_frame(
+            alloc,
+            rule,
+            base,
+            behind,
+            &window[at + 1..],
+            is_end,
+            offsets,
+        )? {
             FrameRead::Whole { size } => at += 1 + size,
             FrameRead::Cut => return Ok(Walked::Rest { at }),
             FrameRead::Damaged { at: behind } => return Ok(Walked::Damaged {
