@@ -5,10 +5,6 @@ use Rattle.std.specs.Prelude.{ℕ}
 abbrev pub index_limit : ℕ
 index_limit = 281474976710655
 
--- the greatest last index of a log, as long as a log is one file
-abbrev pub last_limit : ℕ
-last_limit = 4294967295
-
 -- the greatest number of bytes of a key and of a word
 abbrev pub key_limit : ℕ
 key_limit = 255

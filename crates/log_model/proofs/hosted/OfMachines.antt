@@ -3,7 +3,7 @@ use Rattle.std.proofs.Common.{◌≡◌, ℕ, suc, ◌+◌, ◌<◌, ◌≤◌, 
 use Rattle.std.proofs.lemmas.Bool.{or_cases, and_from, and_parts}
 use Rattle.std.specs.List.{list_any, find, enumerate_from, AllByRecursion}
 use Rattle.std.specs.FinMap.{is_sorted}
-use Rattle.host_types.specs.Limits.{index_limit, last_limit}
+use Rattle.host_types.specs.Limits.{index_limit}
 use Rattle.host_types.specs.declared.entry.Ask.{Ask}
 use Rattle.host_types.specs.declared.entry.Ask.TheVariants.{Register, Alive, Unregister, Tick, Command}
 use Rattle.host_types.specs.declared.entry.Body.{Body}
@@ -97,15 +97,15 @@ expiring s time session ok =
     due : (o : Option Session) → find (is_due time) s.sessions ≡ o → is_expiry_of session (expires_due s.last (elim o as (λ _. Option ℕ) [ None ↦ None | Some x ↦ Some x.id ])) ≡ true → Expiring s session
     due None f e = absurd (cc)
     due (Some x) f e =
-        elim (nat_le last_limit s.last) as (λ b. nat_le last_limit s.last ≡ b → is_expiry_of session (cond b (Not_now LogEnd) (Expires x.id)) ≡ true → Expiring s session) [
+        elim (nat_le index_limit s.last) as (λ b. nat_le index_limit s.last ≡ b → is_expiry_of session (cond b (Not_now LogEnd) (Expires x.id)) ≡ true → Expiring s session) [
           | true ↦ λ t e. absurd (cc)
           | false ↦ λ t e.
               let same : x.id ≡ session = eqb-true x.id session e in
-              record { found = subst (λ n. (y : Session) × (found_session n s.sessions ≡ Some y)) same (found_own s.sessions (is_due time) x f); more = let below = leb-false last_limit s.last t in omega (arith, below) }
+              record { found = subst (λ n. (y : Session) × (found_session n s.sessions ≡ Some y)) same (found_own s.sessions (is_due time) x f); more = let below = leb-false index_limit s.last t in omega (arith, below) }
         ] refl e
 
 room : (last : ℕ) → admits_more last ≡ Admitted → last < index_limit
-room last e = let below = leb-false last_limit last (unrefused (nat_le last_limit last) LogEnd e) in omega (arith, below)
+room last e = let below = leb-false index_limit last (unrefused (nat_le index_limit last) LogEnd e) in omega (arith, below)
 
 -- ---- one entry
 

@@ -1,7 +1,7 @@
 -- Which offers are admitted, and who expires. What is refused changes nothing; the first cause of a refusal is told.
 use Rattle.std.specs.Prelude.{ℕ, ◌+◌, ◌-◌, Bool, cond, not, ◌&&◌, ◌||◌, nat_le, nat_lt, ◌==◌, List, [], ◌∷◌, length, Option, Some, None}
 use Rattle.std.specs.List.{list_any, find}
-use Rattle.host_types.specs.Limits.{index_limit, last_limit}
+use Rattle.host_types.specs.Limits.{index_limit}
 use Rattle.host_types.specs.declared.entry.Offer.{Offer}
 use Rattle.host_types.specs.declared.entry.Ask.{Ask}
 use Rattle.host_types.specs.declared.entry.Ask.TheVariants.{Register, Alive, Unregister, Tick, Command}
@@ -92,7 +92,7 @@ admits_time now time = refused_if (nat_lt time now) (Time now)
 
 -- the log isn't at its end
 abbrev pub admits_more : ℕ → Admission
-admits_more last = refused_if (nat_le last_limit last) LogEnd
+admits_more last = refused_if (nat_le index_limit last) LogEnd
 
 -- an offer: the time, who is due, the ask itself, the end of the log, in this order
 abbrev pub admits_offer : ℕ → ℕ → List Session → (ℕ → List ℕ → Op → Admission) → Offer → Admission
@@ -118,7 +118,7 @@ pub data Expiry : Type 0 where
 
 abbrev pub expires_due : ℕ → Option ℕ → Expiry
 expires_due last None = Nobody
-expires_due last (Some id) = cond (nat_le last_limit last) (Not_now LogEnd) (Expires id)
+expires_due last (Some id) = cond (nat_le index_limit last) (Not_now LogEnd) (Expires id)
 
 -- who of these sessions expires
 abbrev pub expires_in : ℕ → ℕ → List Session → ℕ → Expiry
