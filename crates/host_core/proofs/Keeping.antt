@@ -39,7 +39,9 @@ use Rattle.session_table.specs.Table.{Table}
 use Rattle.session_table.specs.Places.{table_cells}
 use Rattle.host_core.specs.Entering.{Entered, Meets}
 use Rattle.host_core.specs.CoreParts.{sessions_after}
+use Rattle.released_marks.specs.Marks.{Marks}
 use Rattle.host_core.specs.CoreState.{CoreState, IsKept, hosted}
+use Rattle.host_core.specs.Marking.{HasMarks}
 use Rattle.host_core.proofs.Parts.{parts_follow, session_part}
 use Rattle.host_core.proofs.Standing.{places-append, parts_apart, out_after}
 
@@ -134,10 +136,11 @@ module _ {M : Type 0} (cells : M → Cells) (d : MachineDecision) (s : CoreState
   storable_all lawful o fit (Ok r) decides = storable lawful o fit r decides
   storable_all lawful o fit (Err why) decides = tt
 
-  module _ (index cut : ℕ) (e : Entry) (behind : s.last < index) (fits : EntryFits e) (range : IsInRange index e) (machine : M) (table : Table) (lent lent' lent'' : Lent)
-      (lends : (j : ℕ) → tokens lent j ≡ tokens s.lender j + one_of index j) (entered : Entered index e cut (told_by d (cells s.machine) index e.body) (cells s.machine) (cells machine) s.sessions table lent lent') (out : lent''.out ≡ lent'.out) (closed : lent''.closed ≡ []) where
+  module _ (index cut : ℕ) (e : Entry) (behind : s.last < index) (fits : EntryFits e) (range : IsInRange index e) (machine : M) (table : Table) (lent lent' lent'' : Lent) (marks : Marks)
+      (lends : (j : ℕ) → tokens lent j ≡ tokens s.lender j + one_of index j) (entered : Entered index e cut (told_by d (cells s.machine) index e.body) (cells s.machine) (cells machine) s.sessions table lent lent') (out : lent''.out ≡ lent'.out) (closed : lent''.closed ≡ [])
+      (has : HasMarks index (cells machine ++ table_cells table) marks) where
     abbrev s' : CoreState M
-    s' = record { machine = machine; sessions = table; lender = lent''; last = index; time = e.time }
+    s' = record { machine = machine; sessions = table; lender = lent''; marks = marks; last = index; time = e.time }
 
     cells_are : after (hosted cells s).cells index e ≡ cells machine ++ table_cells table
     cells_are =
@@ -165,4 +168,5 @@ module _ {M : Type 0} (cells : M → Cells) (d : MachineDecision) (s : CoreState
           ∙ out_after index (cells s.machine) s.sessions lent (meets index lent behind lends) (cells machine) table lent' entered.released j
           ∙ sym (places-append (cells machine) (table_cells table) j);
       closed = closed;
+      marks = has;
     }

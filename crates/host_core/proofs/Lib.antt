@@ -1,7 +1,10 @@
 pub mod Confirming
 pub mod Giving
 pub mod Keeping
+pub mod Marking
+pub mod MarksOfLogs
 pub mod Meeting
 pub mod Parts
+pub mod Remarking
 pub mod Standing
 pub mod Tables

@@ -3,3 +3,4 @@ pub mod Batching
 pub mod CoreParts
 pub mod CoreState
 pub mod Entering
+pub mod Marking

@@ -17,8 +17,8 @@ const SESSION_LIMIT: usize = 1024;
 /// The greatest sequence of a command.
 const SEQUENCE_LIMIT: u64 = 281474976710655;
 
-/// The greatest last index of a log, as long as a log is one file.
-const LAST_LIMIT: Index = 4294967295;
+/// The greatest index.
+const LAST_LIMIT: Index = 281474976710655;
 
 /// What is to be done with an offer.
 #[derive(Debug, PartialEq, Eq, Drop)]

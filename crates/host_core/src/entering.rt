@@ -22,15 +22,6 @@ use machine::{Machine, close_own};
 use session_table::Sessions;
 use std::alloc::Global;
 
-/// Drops the pairs that were closed: nobody asks for marks yet.
-pub(crate) fn drop_closed(lender: &mut Lender)
-    ensures out { lender.new.out ≡ lender.old.out }
-    ensures closed { lender.new.closed ≡ [] }
-    ensures spare { lender.new.spare ≡ lender.old.spare }
-{
-    while lender.pop_closed().is_some() {}
-}
-
 /// Whether the owner of what the effect puts is open, or nobody is to own it.
 fn owner_stands(sessions: &Sessions, effect: &Effect) -> bool
     ensures { result ≡ has_owner sessions.now.sessions effect.now }

@@ -4,7 +4,10 @@
 mod batching;
 mod deciding;
 mod entering;
+mod laws;
 mod state;
+mod taking;
 
 pub use deciding::{DecideError, Decided};
+pub use laws::marks_of_logs_follow;
 pub use state::{Core, Prepared};
