@@ -6,7 +6,7 @@ use Rattle.segment_files.specs.declared.descriptor.Field.{Field}
 use Rattle.segment_files.specs.declared.numbers.Size.{Size}
 use Rattle.host_types.specs.Limits.{index_limit}
 use Rattle.segment_files.specs.Numbers.{Four, Eight, bytes_of, number_at}
-use Rattle.segment_files.specs.Parse.{descriptor_fields, exactly, fields_by, first_wrong, in_rewritten, is_right, is_rewritten, last_place, number_or_zero, wrong_at}
+use Rattle.segment_files.specs.Parse.{descriptor_fields, exactly, fields_by, first_wrong, in_rewritten, is_right, is_rewritten, last_place, number_or_zero, size_field, wrong_at}
 
 -- the first place, by what the first field is
 abbrev go_on : Option ℕ → List Field → List ℕ → Option ℕ
@@ -90,6 +90,18 @@ pub last_right : (id : FileId) (last : ℕ) (head : List ℕ) → first_wrong (f
 last_right id last head right =
     let all = all_right (fields_by id true last) head right in
     number_right (in_rewritten true last_place id.base index_limit) head all.1.1.1.1.1.1.0
+
+-- its cut
+pub cut_right : (id : FileId) (last : ℕ) (head : List ℕ) → first_wrong (fields_by id true last) head ≡ None → number_at Eight 32 head ≤ index_limit
+cut_right id last head right =
+    let all = all_right (fields_by id true last) head right in
+    (number_right (in_rewritten true 32 0 index_limit) head all.1.1.1.1.1.1.1.0).1
+
+-- the size of a file that is appended to
+pub size_right : (id : FileId) (last : ℕ) (head : List ℕ) → first_wrong (fields_by id false last) head ≡ None → (2 ≤ number_at Four 56 head) × (number_at Four 56 head ≤ 65536)
+size_right id last head right =
+    let all = all_right (fields_by id false last) head right in
+    number_right (size_field false) head all.1.1.1.1.1.1.1.1.1.1.0
 
 -- the fields as they are built
 pub fields_are : (id : FileId) (head : List ℕ) (rewritten : Bool) (last : ℕ) (fields : List Field) → rewritten ≡ is_rewritten head → last ≡ number_or_zero Eight last_place head → fields ≡ fields_by id rewritten last

@@ -7,7 +7,7 @@ use Rattle.std.proofs.lemmas.Nat.{from_be_bytes-to_be_bytes_4, from_be_bytes-to_
 use Rattle.disk_model.specs.Image.{IsFileId}
 use Rattle.disk_model.specs.declared.file_id.FileId.{FileId}
 use Rattle.segment_files.specs.declared.descriptor.Descriptor.{Descriptor}
-use Rattle.host_types.specs.Limits.{last_limit}
+use Rattle.host_types.specs.Limits.{index_limit}
 use Rattle.host_types.specs.declared.entry.Entry.{Entry}
 use Rattle.entry_codec.specs.Spelled.{spelled}
 use Rattle.entry_codec.specs.Reading.{Spelling, Spells, spelling}
@@ -26,7 +26,7 @@ use Rattle.segment_files.proofs.Walks.{walk_shut}
 -- what the entry has to be, that it is read back behind this index
 pub record Follows (before index : ℕ) (entry : Entry) : Type 0 where
   pub next : index ≡ before + 1
-  pub low : index ≤ last_limit
+  pub low : index ≤ index_limit
   pub spells : spelling (spelled index entry) ≡ Spells index entry (length (spelled index entry))
   pub least : 17 ≤ length (spelled index entry)
   pub most : length (spelled index entry) ≤ 131072
@@ -49,7 +49,7 @@ module _ (before index : ℕ) (entry : Entry) (f : Follows before index entry) w
   length-one_frame = omega (arith, ap length body_is)
 
   fit : is_next before index ≡ true
-  fit = and_from (nat_eq index (before + 1)) (nat_le index last_limit) (eq-eqb index (before + 1) f.next) (le-leb index last_limit f.low)
+  fit = and_from (nat_eq index (before + 1)) (nat_le index index_limit) (eq-eqb index (before + 1) f.next) (le-leb index index_limit f.low)
 
   placed : is_misplaced is_next before bytes ≡ false
   placed =

@@ -5,6 +5,7 @@ pub mod Closed
 pub mod Settling
 pub mod Descriptors
 pub mod Indexes
+pub mod Rising
 pub mod Standing
 pub mod Extending
 pub mod Placing

@@ -3,7 +3,7 @@ use Rattle.std.proofs.Common.{◌≡◌, ℕ, suc, ◌+◌, ◌-◌, ◌<◌, �
 use Rattle.std.proofs.lemmas.Bool.{and_parts, eqb-true, leb-true, ltb-true}
 use Rattle.std.proofs.lemmas.List.{append-nil}
 use Rattle.std.proofs.lemmas.List.Elements.{All-nil, All-push, All-weaker}
-use Rattle.host_types.specs.Limits.{index_limit, last_limit}
+use Rattle.host_types.specs.Limits.{index_limit}
 use Rattle.host_types.specs.declared.entry.Entry.{Entry}
 use Rattle.offset_index.specs.Indexed.{MayFollow}
 use Rattle.segment_files.specs.declared.rule.Rule.{Rule}
@@ -38,14 +38,14 @@ last_low base (p ∷ os) = omega arith
 -- an entry that may follow has a greater index
 pub follows_above : (rule : Rule) (before index : ℕ) → follows rule before index ≡ true → before < index
 follows_above Appended before index t =
-    let is : index ≡ before + 1 = eqb-true index (before + 1) (and_parts (nat_eq index (before + 1)) (nat_le index last_limit) t).0 in omega (arith, is)
+    let is : index ≡ before + 1 = eqb-true index (before + 1) (and_parts (nat_eq index (before + 1)) (nat_le index index_limit) t).0 in omega (arith, is)
 follows_above (Rewritten last left) before index t = ltb-true before index (and_parts (nat_lt before index) (nat_le index last) t).0
 
 -- one that is appended is the next
-pub is_next_one : (before index : ℕ) → follows Appended before index ≡ true → (index ≡ before + 1) × (index ≤ last_limit)
+pub is_next_one : (before index : ℕ) → follows Appended before index ≡ true → (index ≡ before + 1) × (index ≤ index_limit)
 is_next_one before index t =
-    let parts = and_parts (nat_eq index (before + 1)) (nat_le index last_limit) t in
-    (eqb-true index (before + 1) parts.0, leb-true index last_limit parts.1)
+    let parts = and_parts (nat_eq index (before + 1)) (nat_le index index_limit) t in
+    (eqb-true index (before + 1) parts.0, leb-true index index_limit parts.1)
 
 -- the rule behind some entries allows as much
 pub counts_behind : (rule : Rule) (n base : ℕ) (os : Offset_list) → Counts rule base os → Counts (behind rule n) base os
@@ -89,8 +89,8 @@ room_none (Rewritten last left) = omega arith
 
 -- NUMBERS OF INDEXES
 
-pub few_indexes : (rule : Rule) (base : ℕ) (os : Offset_list) → base ≤ index_limit → IsRule base rule → Counts rule base os → last_read base os ≤ index_limit + last_limit
-few_indexes Appended base os limit is (same, few) = omega (arith, same, few, limit)
+pub few_indexes : (rule : Rule) (base : ℕ) (os : Offset_list) → base ≤ index_limit → IsRule base rule → Counts rule base os → last_read base os ≤ index_limit
+few_indexes Appended base os limit is (same, few) = omega (arith, same, few)
 few_indexes (Rewritten last left) base os limit (first, within) (some, low) = omega (arith, low, within)
 
 -- ENTRIES BEHIND ONE ANOTHER
@@ -145,11 +145,11 @@ gained_ahead rule n base old new g = record { more = g.more; offsets = g.offsets
 
 -- OVER WHATEVER DISK
 
-pub put_none : (rule : Rule) (base place : ℕ) → 1 ≤ base → IsRule base rule → IsPutDown rule base [] place
-put_none rule base place first is = record { counts = none rule is; below = All-nil (λ (p : ℕ × ℕ). (base + p.0 ≤ last_read base []) × (p.1 < place)) }
+pub put_none : (rule : Rule) (base place : ℕ) → 1 ≤ base → base ≤ index_limit → IsRule base rule → IsPutDown rule base [] place
+put_none rule base place first most is = record { counts = none rule is; below = All-nil (λ (p : ℕ × ℕ). (base + p.0 ≤ last_read base []) × (p.1 < place)) }
   where
     none : (r : Rule) → IsRule base r → Counts r base []
-    none Appended is = (omega arith, omega arith)
+    none Appended is = (omega arith, omega (arith, most))
     none (Rewritten last left) (low, within) = (omega arith, omega (arith, low))
 
 pub below_up : (base last : ℕ) (os : Offset_list) (a b : ℕ) → a ≤ b → AreBelow base last os a → AreBelow base last os b

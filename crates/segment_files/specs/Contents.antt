@@ -27,7 +27,7 @@ use Rattle.segment_files.specs.Files.{is_open}
 use Rattle.entry_codec.specs.Spelled.{EntryFits, IsInRange, IsSpelledBy, spelled}
 use Rattle.segment_files.specs.declared.rule.Rule.{Rule}
 use Rattle.segment_files.specs.Numbers.{Four, Eight, number_at}
-use Rattle.host_types.specs.Limits.{index_limit, last_limit}
+use Rattle.host_types.specs.Limits.{index_limit}
 use Rattle.segment_files.specs.Parse.{Numbered, Body, Holds, Breaks, with_entry, first_of, body, Part, Found, Closed, Whole, Damaged, Framed, Crooked, frame, Appended, Rewritten, follows, room, behind, index_behind, Walk, Ends, Fails, walk, mark, is_rewritten, last_place, descriptor_fields, first_wrong, parse}
 
 -- the descriptor of an appended file
@@ -312,7 +312,7 @@ IsRule base (Rewritten last left) = (base ≤ last) × (last ≤ index_limit)
 
 -- the numbers of entries and indexes
 abbrev pub Counts : Rule → ℕ → Offset_list → Type 0
-Counts Appended base offsets = (last_read base offsets ≡ base - 1 + length offsets) × (length offsets ≤ last_limit)
+Counts Appended base offsets = (last_read base offsets ≡ base - 1 + length offsets) × (base - 1 + length offsets ≤ index_limit)
 Counts (Rewritten last left) base offsets = (base - 1 + length offsets ≤ last_read base offsets) × (last_read base offsets ≤ last)
 
 -- and all of it is before the place that was come to
@@ -381,23 +381,35 @@ abbrev pub IsRead : FileId → List ℕ → Result Contents FileFault → Type 0
 IsRead id file (Ok contents) = IsContents id file (parse id file) contents
 IsRead id file (Err fault) = IsTrueFault (parse id file) fault
 
--- the rule of a descriptor that was read is one
+-- the rule of a descriptor that was read is one, and its numbers are in range
 abbrev pub HasRule : FileId → Option Descriptor → Type 0
 HasRule id None = Unit {0}
-HasRule id (Some descriptor) = (descriptor.base ≡ id.base) × IsRule id.base (rule_by descriptor)
+HasRule id (Some descriptor) = (descriptor.base ≡ id.base) × IsRule id.base (rule_by descriptor) × (descriptor.rewritten ≡ false → 2 ≤ descriptor.size) × (descriptor.size ≤ 65536) × (descriptor.cut ≤ index_limit)
 
 -- how far the frames of a file reach, whatever the disk tells
 abbrev pub HasFew : FileId → Contents → Type 0
 HasFew id Is_shut = Unit {0}
-HasFew id (Open descriptor offsets gate) =
-    (descriptor.base ≡ id.base) × IsRule id.base (rule_by descriptor) × (gate ≤ 64 + frame_limit * length offsets.items) × IsPutDown (rule_by descriptor) id.base offsets.items gate
+HasFew id (Open descriptor offsets gate) = HasRule id (Some descriptor) × (gate ≤ 64 + frame_limit * length offsets.items) × IsPutDown (rule_by descriptor) id.base offsets.items gate
 
--- how far a part reaches, whatever the disk tells
+-- a part's numbers are in range, and one that is appended to has each entry up to its last index
+pub record IsInBounds (id : FileId) (part : Scanned) : Type 0 where
+  pub last : part.last ≡ last_by part.descriptor (length part.offsets.items)
+  pub base : part.descriptor.base ≡ id.base
+  pub from : id.base ≤ part.last + 1
+  pub last_in_range : part.last ≤ index_limit
+  pub gate : part.gate ≤ 64 + frame_limit * length part.offsets.items
+  pub below : AreBelow id.base part.last part.offsets.items part.gate
+  pub counted : part.descriptor.rewritten ≡ false → part.last ≡ id.base - 1 + length part.offsets.items
+  pub ended : part.descriptor.rewritten ≡ false → last_read id.base part.offsets.items ≡ part.last
+  pub filled : part.descriptor.rewritten ≡ true → id.base ≤ part.last
+  pub sized : part.descriptor.rewritten ≡ false → 2 ≤ part.descriptor.size
+  pub size : part.descriptor.size ≤ 65536
+  pub cut : part.descriptor.cut ≤ index_limit
+
+-- so whatever the disk tells
 abbrev pub IsBounded : FileId → Answer → Type 0
 IsBounded id Is_closed = Unit {0}
-IsBounded id (Is_part part) =
-    (part.last ≡ last_by part.descriptor (length part.offsets.items)) × (part.descriptor.base ≡ id.base) × (id.base ≤ part.last + 1) × (part.gate ≤ 64 + frame_limit * length part.offsets.items)
-    × (part.descriptor.rewritten ≡ false → length part.offsets.items ≤ last_limit) × AreBelow id.base part.last part.offsets.items part.gate
+IsBounded id (Is_part part) = IsInBounds id part
 
 -- ONE ENTRY
 

@@ -1,105 +1,112 @@
--- The parts that the files of a folder are of a log, and what log they are.
-use Rattle.std.specs.Prelude.{◌≡◌, ◌≢◌, ◌+◌, ◌≤◌, ◌⊎◌, ℕ, if◌then◌else◌, List, [], ◌∷◌, ◌++◌, length, take, Option, Some, None, Contains}
-use Rattle.std.specs.List.{enumerate_from}
-use Rattle.host_types.specs.declared.entry.Entry.{Entry}
+-- The parts that the files of a folder are of a log, and where a folder is damaged.
+use Rattle.std.specs.Prelude.{◌≡◌, ◌≢◌, ◌+◌, ◌-◌, ◌<◌, ◌≤◌, ◌⊎◌, ◌↔◌, ℕ, true, List, [], ◌∷◌, ◌++◌, Option, Some, None, Contains}
 use Rattle.disk_model.specs.declared.file_id.FileId.{FileId}
 use Rattle.disk_model.specs.Image.{Image, IsBelow, place}
 use Rattle.disk_model.specs.View.{View, MayLeave}
-use Rattle.segment_files.specs.Parse.{Numbered, Part, Found, Closed, Whole, Damaged, base_place, parse}
+use Rattle.segment_files.specs.Parse.{Numbered, Part, Found, Closed, Whole, Damaged, base_place, last_index, last_place, parse}
 
 -- what the files of one name are
 abbrev pub Folder : Type 0
 Folder = FileId → Found
 
--- where a file says that a compaction wrote it
-abbrev pub kind_place : ℕ
-kind_place = 2
-
--- As long as no log is opened with such a file, it counts as damaged where it says so.
-abbrev pub appended_only : Found → Found
-appended_only Closed = Closed
-appended_only (Whole part) = if part.rewritten then Damaged kind_place else Whole part
-appended_only (Damaged at) = Damaged at
-
--- what a file counts as
-abbrev pub counts_as : FileId → List ℕ → Found
-counts_as id bytes = appended_only (parse id bytes)
-
 -- a file that isn't there is as good as a closed one
 abbrev pub found : FileId → Option (List ℕ) → Found
 found id None = Closed
-found id (Some bytes) = counts_as id bytes
+found id (Some bytes) = parse id bytes
 
 abbrev pub folder : List ℕ → Image → Folder
 folder name image id = found id (image (place name id))
 
--- THE CHOICE of the parts: the files with an open gate. None is damaged, and there is at most one.
+-- What counts of a part beside others: its id, with the first index of its range, and its last index. An empty range ends before its base.
+pub record Span : Type 0 where
+  pub id : FileId
+  pub last : ℕ
+
+abbrev pub span : Part → Span
+span part = record { id = part.id; last = part.last }
+
+-- a newer one has the range of a
+pub record LiesIn (a b : Span) : Type 0 where
+  pub newer : a.id.generation < b.id.generation
+  pub base : b.id.base ≤ a.id.base
+  pub last : a.last ≤ b.last
+  pub touches : (a.id.base ≤ b.last) ⊎ (a.id.base ≡ b.id.base)
+
+-- THE CHOICE of the parts: each of them is there, each other file with an open gate lies in one of them, and none is damaged.
 pub record IsChoice (files : Folder) (parts : List Part) : Type 0 where
   pub stand : (p : Part) → Contains parts p → files p.id ≡ Whole p
-  pub cover : (id : FileId) (q : Part) → files id ≡ Whole q → Contains parts q
+  pub cover : (id : FileId) (q : Part) → files id ≡ Whole q → Contains parts q ⊎ ((p : Part) × Contains parts p × LiesIn (span q) (span p))
   pub undamaged : (id : FileId) (at : ℕ) → files id ≡ Damaged at → ⊥
-  pub one : length parts ≤ 1
 
 -- they stand end to end from the next index up to the last one, and at most the last of them is empty
 abbrev pub Tiles : ℕ → List Part → ℕ → Type 0
 Tiles next [] last = next ≡ last + 1
 Tiles next (p ∷ parts) last = (p.id.base ≡ next) × ((p.id.base ≤ p.last) ⊎ ((p.last + 1 ≡ p.id.base) × (parts ≡ []))) × Tiles (p.last + 1) parts last
 
+-- the last entry of its range is there, where a compaction wrote it
+abbrev pub HasLast : Part → Type 0
+HasLast p = p.rewritten ≡ true → last_index (p.id.base - 1) p.entries ≡ p.last
+
+-- the last of the parts whose range isn't empty
+pub record IsLastFilled (parts : List Part) (p : Part) : Type 0 where
+  pub front : List Part
+  pub back : List Part
+  pub are : parts ≡ front ++ p ∷ back
+  pub filled : p.id.base ≤ p.last
+  pub empty : (q : Part) → Contains back q → q.last < q.id.base
+
+-- the last entry of the log is there
+abbrev pub AreEnded : List Part → Type 0
+AreEnded parts = (p : Part) → IsLastFilled parts p → HasLast p
+
+-- THE PARTS of a folder: they stand end to end up to this index, and the last entry is there
+pub record AreParts (files : Folder) (parts : List Part) (last : ℕ) : Type 0 where
+  pub choice : IsChoice files parts
+  pub tile : Tiles 1 parts last
+  pub ended : AreEnded parts
+
 abbrev pub entries_of : List Part → Numbered
 entries_of [] = []
 entries_of (p ∷ parts) = p.entries ++ entries_of parts
 
--- These parts are the log with these entries: a fact about the parts alone. No entry is missing.
-pub record AreOf (parts : List Part) (log : List Entry) : Type 0 where
-  pub tile : Tiles 1 parts (length log)
-  pub present : entries_of parts ≡ enumerate_from 1 log
+-- A FAULT, at its place in a file.
 
--- the folder has these parts, and they are this log
-pub record Stands (files : Folder) (log : List Entry) : Type 0 where
+-- the first file that is damaged in itself
+pub record IsFirstDamaged (files : Folder) (id : FileId) (at : ℕ) : Type 0 where
+  pub damaged : files id ≡ Damaged at
+  pub first : (other : FileId) (place : ℕ) → IsBelow other id → files other ≡ Damaged place → ⊥
+
+-- a part of a folder: a file with an open gate that lies in no other one
+pub record IsPart (files : Folder) (part : Part) : Type 0 where
+  pub whole : files part.id ≡ Whole part
+  pub top : (id : FileId) (q : Part) → files id ≡ Whole q → LiesIn (span part) (span q) → ⊥
+
+-- No file is damaged, the parts below this one stand end to end, and it is a part that doesn't begin where they end.
+pub record IsUntiled (files : Folder) (id : FileId) : Type 0 where
+  pub undamaged : (other : FileId) (at : ℕ) → files other ≡ Damaged at → ⊥
+  pub earlier : List Part
+  pub are : (p : Part) → Contains earlier p ↔ (IsPart files p × IsBelow p.id id)
+  pub last : ℕ
+  pub tile : Tiles 1 earlier last
+  pub part : Part
+  pub is_part : IsPart files part
+  pub id_is : part.id ≡ id
+  pub untiled : part.id.base ≢ last + 1
+
+-- all parts stand end to end, and this is the last filled one, whose last entry isn't there
+pub record IsUnended (files : Folder) (id : FileId) : Type 0 where
   pub parts : List Part
   pub choice : IsChoice files parts
-  pub are : AreOf parts log
-
--- A FAULT, at its place in a file. A file counts as damaged where it is damaged in itself; or at its base, where it is right in itself
--- and a second one with an open gate.
-
-abbrev pub HasOpen : Folder → FileId → Type 0
-HasOpen files id = files id ≢ Closed
-
-pub record IsSecond (files : Folder) (id : FileId) : Type 0 where
+  pub last : ℕ
+  pub tile : Tiles 1 parts last
   pub part : Part
-  pub whole : files id ≡ Whole part
-  pub first : FileId
-  pub first_open : HasOpen files first
-  pub below : IsBelow first id
-
-abbrev pub IsDamagedAt : Folder → FileId → ℕ → Type 0
-IsDamagedAt files id at = (files id ≡ Damaged at) ⊎ (IsSecond files id × (at ≡ base_place))
-
--- the first file that counts as damaged
-pub record IsFirstDamaged (files : Folder) (id : FileId) (at : ℕ) : Type 0 where
-  pub damaged : IsDamagedAt files id at
-  pub first : (other : FileId) (place : ℕ) → IsBelow other id → IsDamagedAt files other place → ⊥
-
--- no file counts as damaged, and the one part doesn't begin with the first entry
-pub record IsUnbased (files : Folder) (id : FileId) : Type 0 where
-  pub part : Part
-  pub choice : IsChoice files (part ∷ [])
+  pub last_filled : IsLastFilled parts part
   pub id_is : part.id ≡ id
-  pub unbased : part.id.base ≢ 1
+  pub unended : HasLast part → ⊥
 
 -- the file that a folder is damaged in, and where
 abbrev pub IsFault : Folder → FileId → ℕ → Type 0
-IsFault files id at = IsFirstDamaged files id at ⊎ (IsUnbased files id × (at ≡ base_place))
-
--- IN ORDER: whatever a crash leaves stands for a prefix of the log.
-
--- it stands for a prefix of this log with at least so many entries
-pub record StandsForPrefix (name : List ℕ) (log : List Entry) (least : ℕ) (c : Image) : Type 0 where
-  pub count : ℕ
-  pub enough : least ≤ count
-  pub within : count ≤ length log
-  pub stands : Stands (folder name c) (take count log)
+IsFault files id at = IsFirstDamaged files id at ⊎ ((IsUntiled files id × (at ≡ base_place)) ⊎ (IsUnended files id × (at ≡ last_place)))
 
 -- each image that a crash now may leave has these parts
 abbrev pub EachHas : View → List ℕ → List Part → Type 0

@@ -4,7 +4,7 @@ use Rattle.std.specs.Prelude.{◌+◌, ◌-◌, ℕ, zero, suc, min, Bool, true,
 use Rattle.host_types.specs.declared.entry.Entry.{Entry}
 use Rattle.disk_model.specs.declared.file_id.FileId.{FileId}
 use Rattle.segment_files.specs.Files.{is_open}
-use Rattle.host_types.specs.Limits.{index_limit, last_limit}
+use Rattle.host_types.specs.Limits.{index_limit}
 use Rattle.entry_codec.specs.Reading.{Spelling, Spells, Spoils, spelling}
 use Rattle.segment_files.specs.declared.numbers.Size.{Size}
 use Rattle.segment_files.specs.declared.descriptor.Field.{Field}
@@ -75,7 +75,7 @@ frame follows room before bytes =
 
 -- each index is the one after
 abbrev pub is_next : Follows
-is_next before index = nat_eq index (before + 1) && nat_le index last_limit
+is_next before index = nat_eq index (before + 1) && nat_le index index_limit
 
 -- each is above the one before, up to this one
 abbrev pub rises_to : ℕ → Follows

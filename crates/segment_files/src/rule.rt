@@ -5,8 +5,8 @@ ghost use Rattle.segment_files.specs.Parse.{behind, follows, is_full, room};
 use crate::frames::FRAME_ROOM;
 use host_types::Index;
 
-/// The greatest last index of a log that is one file.
-const LAST: Index = 4294967295;
+/// The greatest index.
+const LAST: Index = 281474976710655;
 
 /// The rule of a file, as far as it wasn't read.
 #[derive(Clone, Copy, Debug, PartialEq, Eq)]

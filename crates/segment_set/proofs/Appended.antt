@@ -6,8 +6,7 @@ use Rattle.disk_model.specs.declared.file_id.FileId.{FileId}
 use Rattle.disk_model.specs.Image.{written}
 use Rattle.segment_files.specs.Files.{is_open, IsWholeOrAbsent, then_shut}
 use Rattle.segment_files.specs.Numbers.{four_at}
-use Rattle.segment_files.specs.Folder.{appended_only, counts_as}
-use Rattle.segment_files.specs.Parse.{Numbered, Part, Closed, Whole, first_wrong, descriptor_fields, described, is_rewritten, appended_part, rewritten_part, part_as, rule_as, rule_of, Framed, frame, is_next, frame_room, Walk, Ends, Fails, appended_walk, walk, parse_open}
+use Rattle.segment_files.specs.Parse.{Numbered, Part, Closed, Whole, first_wrong, descriptor_fields, described, is_rewritten, appended_part, rewritten_part, part_as, rule_as, rule_of, Framed, frame, is_next, frame_room, Walk, Ends, Fails, appended_walk, walk, parse, parse_open}
 use Rattle.segment_set.specs.Growth.{grown}
 use Rattle.segment_set.proofs.Walks.{walked, reach, extend, extended, one_frame, walk_shut}
 
@@ -23,25 +22,21 @@ pub record Appended (id : FileId) (b : List ℕ) (tail : Part) : Type 0 where
   pub walk : appended_walk 0 (id.base - 1) (drop 64 b) ≡ Ends entries gate
   pub is : tail ≡ the_part id (take 64 b) entries gate
 
-parse_opens : (id : FileId) (b : List ℕ) → is_open b ≡ true → counts_as id b ≡ appended_only (described id (take 64 b) (drop 64 b) (first_wrong (descriptor_fields id (take 64 b)) (take 64 b)))
+parse_opens : (id : FileId) (b : List ℕ) → is_open b ≡ true → parse id b ≡ described id (take 64 b) (drop 64 b) (first_wrong (descriptor_fields id (take 64 b)) (take 64 b))
 unfolding parse_open
-parse_opens id b is = ap (λ (t : Bool). appended_only (if t then parse_open id (take 64 b) (drop 64 b) else Closed)) is
+parse_opens id b is = ap (λ (t : Bool). if t then parse_open id (take 64 b) (drop 64 b) else Closed) is
 
-pub parse_shut : (id : FileId) (b : List ℕ) → is_open b ≡ false → counts_as id b ≡ Closed
-parse_shut id b is = ap (λ (t : Bool). appended_only (if t then parse_open id (take 64 b) (drop 64 b) else Closed)) is
+pub parse_shut : (id : FileId) (b : List ℕ) → is_open b ≡ false → parse id b ≡ Closed
+parse_shut id b is = ap (λ (t : Bool). if t then parse_open id (take 64 b) (drop 64 b) else Closed) is
 
-pub only_appended : (id : FileId) (head : List ℕ) (w : Walk) → appended_only (appended_part id head w) ≡ appended_part id head w
-only_appended id head (Ends es g) = refl
-only_appended id head (Fails p) = refl
-
--- no file that a compaction wrote counts as a part
-none_rewritten : (id : FileId) (head : List ℕ) (w : Walk) (tail : Part) → appended_only (rewritten_part id head w) ≡ Whole tail → ⊥
-none_rewritten id head (Ends es g) tail is = absurd (cc)
-none_rewritten id head (Fails p) tail is = absurd (cc)
+-- what a part is by the kind of its file
+abbrev by_kind : FileId → List ℕ → Part → Bool → Type 0
+by_kind id b tail true = (tail.id ≡ id) × (tail.rewritten ≡ true)
+by_kind id b tail false = Appended id b tail
 
 -- what an open file was found to be
-pub appended : (id : FileId) (b : List ℕ) (tail : Part) → counts_as id b ≡ Whole tail → Appended id b tail
-appended id b tail whole = ⊎_elim
+opened_as : (id : FileId) (b : List ℕ) (tail : Part) → parse id b ≡ Whole tail → (t : Bool) × by_kind id b tail t
+opened_as id b tail whole = ⊎_elim
     (λ opens. wrong opens (first_wrong (descriptor_fields id H) H) refl (sym (parse_opens id b opens) ∙ whole))
     (λ shuts. absurd (cc (parse_shut id b shuts, whole)))
     (cases_Bool (is_open b))
@@ -67,13 +62,33 @@ appended id b tail whole = ⊎_elim
       is = cc;
     }
 
-    by : is_open b ≡ true → first_wrong (descriptor_fields id H) H ≡ None → (t : Bool) → is_rewritten H ≡ t → appended_only (part_as id H t W) ≡ Whole tail → Appended id b tail
-    by opens right true t_is is = absurd (none_rewritten id H W tail is)
-    by opens right false t_is is = ended opens right t_is W refl (sym (only_appended id H W) ∙ is)
+    written : (w : Walk) → rewritten_part id H w ≡ Whole tail → (tail.id ≡ id) × (tail.rewritten ≡ true)
+    written (Fails p) is = absurd (cc)
+    written (Ends es g) is = (cc, cc)
 
-    wrong : is_open b ≡ true → (o : Option ℕ) → first_wrong (descriptor_fields id H) H ≡ o → appended_only (described id H F o) ≡ Whole tail → Appended id b tail
+    by : is_open b ≡ true → first_wrong (descriptor_fields id H) H ≡ None → (t : Bool) → is_rewritten H ≡ t → part_as id H t W ≡ Whole tail → (t : Bool) × by_kind id b tail t
+    by opens right true t_is is = (true, written W is)
+    by opens right false t_is is = (false, ended opens right t_is W refl is)
+
+    wrong : is_open b ≡ true → (o : Option ℕ) → first_wrong (descriptor_fields id H) H ≡ o → described id H F o ≡ Whole tail → (t : Bool) × by_kind id b tail t
     wrong opens (Some p) o_is is = absurd (cc)
     wrong opens None o_is is = by opens o_is (is_rewritten H) refl is
+
+-- a file that no compaction wrote
+pub appended : (id : FileId) (b : List ℕ) (tail : Part) → parse id b ≡ Whole tail → tail.rewritten ≡ false → Appended id b tail
+appended id b tail whole plain = at (opened_as id b tail whole)
+  where
+    at : (t : Bool) × by_kind id b tail t → Appended id b tail
+    at (true, is) = absurd (cc (is.1, plain))
+    at (false, is) = is
+
+-- a part has the id of its file
+pub parse_id : (id : FileId) (b : List ℕ) (q : Part) → parse id b ≡ Whole q → q.id ≡ id
+parse_id id b q whole = at (opened_as id b q whole)
+  where
+    at : (t : Bool) × by_kind id b q t → q.id ≡ id
+    at (true, is) = is.0
+    at (false, is) = ap (λ (p : Part). p.id) is.is
 
 -- Another file that is the same up to the gate is read the same up to the gate.
 module _ (id : FileId) (b : List ℕ) (tail : Part) (a : Appended id b tail) where
@@ -104,18 +119,17 @@ module _ (id : FileId) (b : List ℕ) (tail : Part) (a : Appended id b tail) whe
         and_from (nat_eq (get_or c 0 0) 1) (nat_le 2 (length c)) (ap (λ (x : ℕ). nat_eq x 1) byte ∙ parts.0)
         (le-leb 2 (length c) (omega (arith, ap length is, length-append L rest, long)))
 
-    pub ahead : counts_as id c ≡ appended_part id (take 64 b) (extended a.entries a.gate (appended_walk 0 (id.base - 1 + length a.entries) rest))
+    pub ahead : parse id c ≡ appended_part id (take 64 b) (extended a.entries a.gate (appended_walk 0 (id.base - 1 + length a.entries) rest))
     ahead =
         parse_opens id c opens
-        ∙ ap (λ (h : List ℕ). appended_only (described id h (drop 64 c) (first_wrong (descriptor_fields id h) h))) head_same
-        ∙ ap (λ (o : Option ℕ). appended_only (described id (take 64 b) (drop 64 c) o)) a.right
-        ∙ ap (λ (t : Bool). appended_only (part_as id (take 64 b) t (walk (rule_as t (take 64 b)) 0 (id.base - 1) (drop 64 c)))) a.plain
-        ∙ only_appended id (take 64 b) (appended_walk 0 (id.base - 1) (drop 64 c))
+        ∙ ap (λ (h : List ℕ). described id h (drop 64 c) (first_wrong (descriptor_fields id h) h)) head_same
+        ∙ ap (λ (o : Option ℕ). described id (take 64 b) (drop 64 c) o) a.right
+        ∙ ap (λ (t : Bool). part_as id (take 64 b) t (walk (rule_as t (take 64 b)) 0 (id.base - 1) (drop 64 c))) a.plain
         ∙ ap (λ (l : List ℕ). appended_part id (take 64 b) (appended_walk 0 (id.base - 1) l)) frames_same
         ∙ ap (appended_part id (take 64 b)) (extend 0 (id.base - 1) (drop 64 b) a.entries a.gate (walked (drop 64 b) 0 (id.base - 1) a.entries a.gate a.walk) rest)
 
   -- with a shut gate there
-  pub without : (c : List ℕ) (x : ℕ) (l : List ℕ) → c ≡ take (64 + a.gate) b ++ x ∷ l → nat_eq x 1 ≡ false → counts_as id c ≡ Whole tail
+  pub without : (c : List ℕ) (x : ℕ) (l : List ℕ) → c ≡ take (64 + a.gate) b ++ x ∷ l → nat_eq x 1 ≡ false → parse id c ≡ Whole tail
   without c x l is shut =
       ahead c (x ∷ l) is (omega arith)
       ∙ ap (λ (w : Walk). appended_part id (take 64 b) (extended a.entries a.gate w)) (walk_shut (id.base - 1 + length a.entries) x l shut)
@@ -124,7 +138,7 @@ module _ (id : FileId) (b : List ℕ) (tail : Part) (a : Appended id b tail) whe
       ∙ ap Whole (sym a.is)
 
   -- with a frame and a shut gate there
-  pub gaining : (fb : List ℕ) (new : Numbered) (c rest : List ℕ) → frame is_next frame_room tail.last fb ≡ Framed new (length fb) → c ≡ take (64 + a.gate) b ++ (1 ∷ fb ++ 0 ∷ rest) → counts_as id c ≡ Whole (grown tail new (1 + length fb))
+  pub gaining : (fb : List ℕ) (new : Numbered) (c rest : List ℕ) → frame is_next frame_room tail.last fb ≡ Framed new (length fb) → c ≡ take (64 + a.gate) b ++ (1 ∷ fb ++ 0 ∷ rest) → parse id c ≡ Whole (grown tail new (1 + length fb))
   gaining fb new c rest is_frame is =
       let last_is : tail.last ≡ id.base - 1 + length a.entries = ap (λ (p : Part). p.last) a.is in
       let framed = subst (λ (k : ℕ). frame is_next frame_room k fb ≡ Framed new (length fb)) last_is is_frame in
@@ -138,23 +152,19 @@ module _ (id : FileId) (b : List ℕ) (tail : Part) (a : Appended id b tail) whe
           let gate : 64 + (a.gate + suc (length fb)) ≡ 64 + a.gate + (1 + length fb) = omega arith in
           λ i. record { id = id; rewritten = false; last = last i; cut = 0; floor = 0; size = four_at 56 (take 64 b); entries = a.entries ++ new; gate = gate i }
 
--- a part has the id of its file
-pub parse_id : (id : FileId) (b : List ℕ) (q : Part) → counts_as id b ≡ Whole q → q.id ≡ id
-parse_id id b q whole = ap (λ (p : Part). p.id) (appended id b q whole).is
-
 -- a file with the frame whole or absent is the part with its entries or without
 pub outcome : (id : FileId) (b : List ℕ) (tail : Part) (gate : ℕ) (fb : List ℕ) (new : Numbered) (c : List ℕ)
-    → counts_as id b ≡ Whole tail → tail.gate ≡ gate → frame is_next frame_room tail.last fb ≡ Framed new (length fb) → gate < length b
-    → IsWholeOrAbsent b gate (then_shut fb) c → (counts_as id c ≡ Whole tail) ⊎ (counts_as id c ≡ Whole (grown tail new (1 + length fb)))
-outcome id b tail gate fb new c whole gate_is is_frame lt alt = ⊎_elim absent present alt
+    → parse id b ≡ Whole tail → tail.rewritten ≡ false → tail.gate ≡ gate → frame is_next frame_room tail.last fb ≡ Framed new (length fb) → gate < length b
+    → IsWholeOrAbsent b gate (then_shut fb) c → (parse id c ≡ Whole tail) ⊎ (parse id c ≡ Whole (grown tail new (1 + length fb)))
+outcome id b tail gate fb new c whole plain gate_is is_frame lt alt = ⊎_elim absent present alt
   where
     a : Appended id b tail
-    a = appended id b tail whole
+    a = appended id b tail whole plain
 
     at : gate ≡ 64 + a.gate
     at = sym gate_is ∙ ap (λ (p : Part). p.gate) a.is
 
-    absent : take (gate + 1) c ≡ take (gate + 1) b → (counts_as id c ≡ Whole tail) ⊎ (counts_as id c ≡ Whole (grown tail new (1 + length fb)))
+    absent : take (gate + 1) c ≡ take (gate + 1) b → (parse id c ≡ Whole tail) ⊎ (parse id c ≡ Whole (grown tail new (1 + length fb)))
     absent same =
         let long : gate < length c = omega (arith, lt, length-take (gate + 1) b, length-take (gate + 1) c, ap length same) in
         let front : take gate c ≡ take gate b = sym (take-take gate (gate + 1) c (omega arith)) ∙ ap (λ (l : List ℕ). take gate l) same ∙ take-take gate (gate + 1) b (omega arith) in
@@ -164,7 +174,7 @@ outcome id b tail gate fb new c whole gate_is is_frame lt alt = ⊎_elim absent 
         let shut : nat_eq (get_or c gate 0) 1 ≡ false = ap (λ (x : ℕ). nat_eq x 1) (byte ∙ ap (λ (k : ℕ). get_or b k 0) at) ∙ gate_shut id b tail a in
         inl (without id b tail a c (get_or c gate 0) (drop (gate + 1) c) (split ∙ ap (λ (k : ℕ). take k b ++ get_or c gate 0 ∷ drop (gate + 1) c) at) shut)
 
-    present : (x : ℕ) × (c ≡ written b gate (x ∷ then_shut fb)) → (counts_as id c ≡ Whole tail) ⊎ (counts_as id c ≡ Whole (grown tail new (1 + length fb)))
+    present : (x : ℕ) × (c ≡ written b gate (x ∷ then_shut fb)) → (parse id c ≡ Whole tail) ⊎ (parse id c ≡ Whole (grown tail new (1 + length fb)))
     present w =
         let D = drop (gate + length (w.0 ∷ then_shut fb)) b in
         let spread : c ≡ take (64 + a.gate) b ++ w.0 ∷ (then_shut fb ++ D) =
@@ -180,10 +190,10 @@ outcome id b tail gate fb new c whole gate_is is_frame lt alt = ⊎_elim absent 
 
 -- with the frame whole it is the part with its entries
 pub outcome_whole : (id : FileId) (b : List ℕ) (tail : Part) (gate : ℕ) (fb : List ℕ) (new : Numbered)
-    → counts_as id b ≡ Whole tail → tail.gate ≡ gate → frame is_next frame_room tail.last fb ≡ Framed new (length fb)
-    → counts_as id (written b gate (1 ∷ then_shut fb)) ≡ Whole (grown tail new (1 + length fb))
-outcome_whole id b tail gate fb new whole gate_is is_frame =
-    let a = appended id b tail whole in
+    → parse id b ≡ Whole tail → tail.rewritten ≡ false → tail.gate ≡ gate → frame is_next frame_room tail.last fb ≡ Framed new (length fb)
+    → parse id (written b gate (1 ∷ then_shut fb)) ≡ Whole (grown tail new (1 + length fb))
+outcome_whole id b tail gate fb new whole plain gate_is is_frame =
+    let a = appended id b tail whole plain in
     let at : gate ≡ 64 + a.gate = sym gate_is ∙ ap (λ (p : Part). p.gate) a.is in
     let D = drop (gate + length (1 ∷ then_shut fb)) b in
     gaining id b tail a fb new (written b gate (1 ∷ then_shut fb)) D is_frame

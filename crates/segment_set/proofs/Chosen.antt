@@ -7,9 +7,9 @@ use Rattle.disk_model.specs.Image.{IsBelow}
 use Rattle.segment_files.specs.Parse.{Part, Found, Closed, Whole, Damaged}
 use Rattle.segment_files.specs.Folder.{Folder, Tiles}
 use Rattle.segment_set.specs.declared.opened.Opened.{Opened}
-use Rattle.segment_set.specs.Fits.{part_list}
-use Rattle.segment_set.specs.Choice.{Span, span, LiesIn, IsChoice, IsPart, IsUntiled}
-use Rattle.segment_set.specs.Sifting.{opened_span, IsOpenedAs, AreOpen, parts_of, Ends, AreStacked, Sifted, IsFirstApart}
+use Rattle.segment_set.specs.Fits.{part_list, parts_of}
+use Rattle.segment_files.specs.Folder.{Span, span, LiesIn, IsChoice, IsPart, IsUntiled}
+use Rattle.segment_set.specs.Sifting.{opened_span, IsOpenedAs, AreOpen, Ends, AreStacked, Sifted, IsFirstApart, IsLastEmpty}
 use Rattle.segment_set.proofs.Images.{nothing, one_of, here, only_one}
 use Rattle.segment_set.proofs.Lying.{further, stack_front, not_in_itself, hardly_empty, there}
 use Rattle.segment_set.proofs.Picking.{below_apart, below_not}
@@ -152,7 +152,7 @@ module _ (files : Folder) (opened kept : List Opened) (covered : List FileId) (s
       (λ one. let e = a.each one.0 one.1 in absurd (cc (ap files one.2, e.1, bad)))
       (a.all id)
 
-  lies_as : (p q : Part) (o k : Opened) → span p ≡ opened_span o → span q ≡ opened_span k → LiesIn (opened_span o) (opened_span k) → LiesIn (span p) (span q)
+  pub lies_as : (p q : Part) (o k : Opened) → span p ≡ opened_span o → span q ≡ opened_span k → LiesIn (opened_span o) (opened_span k) → LiesIn (span p) (span q)
   lies_as p q o k is_p is_q lies = subst (λ (t : Span). LiesIn t (span q)) (sym is_p) (subst (λ (t : Span). LiesIn (opened_span o) t) (sym is_q) lies)
 
   pub choice : IsChoice files (parts_of files kept)
@@ -243,6 +243,19 @@ module _ (files : Folder) (opened : List Opened) (covered : List FileId) (front 
         untiled = λ at. apart (sym (ap (λ (t : Span). t.id.base) e.2) ∙ at ∙ sym some);
       }
 
+-- what stands behind an empty one doesn't begin where that one ends
+behind_empty : (from : ℕ) (front : List Opened) (e one : Opened) (rest : List Opened) (next : ℕ) → AreStacked ((front ++ e ∷ []) ++ one ∷ rest) → Ends from (front ++ e ∷ []) next → e.part.last < e.id.base → one.id.base ≢ next
+behind_empty from [] e one rest next s ends empty at =
+    let first = s.0 one (here one rest) in
+    first.1 (empty_lies e one first.0 (at ∙ sym ends.1) (omega (arith, at, ends.1, empty, hardly_empty e)))
+behind_empty from (o ∷ front) e one rest next s ends empty at = behind_empty (o.part.last + 1) front e one rest next s.2 ends.1 empty at
+
+apart_from : (front : List Opened) (one : Opened) (rest : List Opened) (next : ℕ) → AreStacked (front ++ one ∷ rest) → Ends 1 front next → (one.id.base ≢ next) ⊎ IsLastEmpty front → one.id.base ≢ next
+apart_from front one rest next s ends (inl apart) = apart
+apart_from front one rest next s ends (inr empty) =
+    behind_empty 1 empty.0 empty.1 one rest next (subst (λ (l : List Opened). AreStacked (l ++ one ∷ rest)) empty.2 s) (subst (λ (l : List Opened). Ends 1 l next) empty.2 ends) empty.3
+
 pub untiled : (files : Folder) (opened kept : List Opened) (covered : List FileId) (id : FileId) → Sifted opened kept covered kept → AreOpen files opened → IsFirstApart kept id → IsUntiled files id
 untiled files opened sifted covered id s a f = subst (IsUntiled files) f.id_is
-    (untiled_at files opened covered f.earlier f.one f.later f.next (subst (λ (l : List Opened). Sifted opened l covered l) f.are s) a f.ends f.apart)
+    (let sifted_at = subst (λ (l : List Opened). Sifted opened l covered l) f.are s in
+    untiled_at files opened covered f.earlier f.one f.later f.next sifted_at a f.ends (apart_from f.earlier f.one f.later f.next sifted_at.stacked f.ends f.apart))

@@ -7,9 +7,9 @@ use Rattle.disk_model.specs.declared.file_id.FileId.{FileId}
 use Rattle.disk_model.specs.Image.{IsBelow}
 use Rattle.segment_files.specs.Parse.{Part, Closed, Whole, Damaged}
 use Rattle.segment_files.specs.Folder.{Folder, Tiles}
-use Rattle.segment_set.specs.Choice.{span, LiesIn, IsPart, IsUntiled}
-use Rattle.segment_set.specs.ChoiceLaws.{AreParts}
-use Rattle.segment_set.proofs.Images.{nothing, one_of, here}
+use Rattle.segment_files.specs.Folder.{span, AreEnded, AreParts, HasLast, IsChoice, IsLastFilled, LiesIn, IsPart, IsUnended, IsUntiled}
+use Rattle.segment_set.proofs.Filled.{one_filled, within}
+use Rattle.segment_set.proofs.Images.{nothing, one_of, only_one, here}
 use Rattle.segment_set.proofs.Lying.{there}
 
 -- a file with this base and generation, and its last index
@@ -159,15 +159,11 @@ module _ (all : List Part) (stand : Stand all all) where
       (λ none. ap not none)
       (cases_Bool (lies_in_one all p)))
 
-  choice_of : (last : ℕ) → EachCovered all all → Tiles 1 (tops all) last → AreParts (folder_of all) (tops all)
-  choice_of last covered tile = record {
-    choice = record {
-      stand = λ p has. (part_when p has).whole;
-      cover = λ id q whole. covered_at all covered q (found_in all id q whole) (found_in all id q whole);
-      undamaged = none_damaged all;
-    };
-    last = last;
-    tile = tile;
+  choice_of : EachCovered all all → IsChoice (folder_of all) (tops all)
+  choice_of covered = record {
+    stand = λ p has. (part_when p has).whole;
+    cover = λ id q whole. covered_at all covered q (found_in all id q whole) (found_in all id q whole);
+    undamaged = none_damaged all;
   }
     where
       covered_at : (parts : List Part) → EachCovered all parts → (q : Part) → Contains parts q → Contains all q → Contains (tops all) q ⊎ ((p : Part) × Contains (tops all) p × LiesIn (span q) (span p))
@@ -179,6 +175,12 @@ module _ (all : List Part) (stand : Stand all all) where
           (cases_Bool (lies_in_one all q)))
           (λ later. covered_at parts each.1 q later among)
           (one_of p parts q has)
+
+  parts_of : (last : ℕ) → EachCovered all all → Tiles 1 (tops all) last → AreEnded (tops all) → AreParts (folder_of all) (tops all) last
+  parts_of last covered tile ended = record { choice = choice_of covered; tile = tile; ended = ended }
+
+  unended_of : (last : ℕ) (one : Part) → EachCovered all all → Tiles 1 (tops all) last → IsLastFilled (tops all) one → (HasLast one → ⊥) → IsUnended (folder_of all) one.id
+  unended_of last one covered tile filled lacks = record { parts = tops all; choice = choice_of covered; last = last; tile = tile; part = one; last_filled = filled; id_is = refl; unended = lacks }
 
   untiled_of : (one : Part) (last : ℕ) → Contains (tops all) one → Tiles 1 (filter (below one.id) (tops all)) last → one.id.base ≢ last + 1 → IsUntiled (folder_of all) one.id
   untiled_of one last has tile apart = record {
@@ -196,41 +198,53 @@ module _ (all : List Part) (stand : Stand all all) where
     untiled = apart;
   }
 
+-- what no compaction wrote has each entry
+abbrev Plain : List Part → Type 0
+Plain [] = Unit {0}
+Plain (p ∷ parts) = (p.rewritten ≡ false) × Plain parts
+
+plain_at : (parts : List Part) → Plain parts → (p : Part) → Contains parts p → p.rewritten ≡ false
+plain_at [] plain p has = absurd (nothing p has)
+plain_at (q ∷ parts) plain p has = ⊎_elim (λ is. ap (λ (r : Part). r.rewritten) (sym is) ∙ plain.0) (λ later. plain_at parts plain.1 p later) (one_of q parts p has)
+
+plain_ended : (parts : List Part) → Plain parts → AreEnded parts
+plain_ended parts plain p last rewritten = absurd (cc (rewritten, plain_at parts plain p (within parts last.front p last.back last.are)))
+
 -- ---- FOLDERS
 
-no_files : AreParts (folder_of []) []
-no_files = choice_of [] (tt {0}) 0 (tt {0}) refl
+no_files : AreParts (folder_of []) [] 0
+no_files = parts_of [] (tt {0}) 0 (tt {0}) refl (plain_ended [] (tt {0}))
 
 abbrev compacted : List Part
 compacted = file 1 1 4 ∷ file 1 3 8 ∷ file 5 2 8 ∷ file 9 4 9 ∷ []
 
 -- older files within a newer one
-a_newer_file_stands : AreParts (folder_of compacted) (file 1 3 8 ∷ file 9 4 9 ∷ [])
-a_newer_file_stands = choice_of compacted (refl, (refl, (refl, (refl, tt {0})))) 9 (refl, (refl, (refl, (refl, tt {0})))) (refl, inl (omega arith), (refl, inl (omega arith), refl))
+a_newer_file_stands : AreParts (folder_of compacted) (file 1 3 8 ∷ file 9 4 9 ∷ []) 9
+a_newer_file_stands = parts_of compacted (refl, (refl, (refl, (refl, tt {0})))) 9 (refl, (refl, (refl, (refl, tt {0})))) (refl, inl (omega arith), (refl, inl (omega arith), refl)) (plain_ended (file 1 3 8 ∷ file 9 4 9 ∷ []) (refl, (refl, tt {0})))
 
 abbrev rewritten_twice : List Part
 rewritten_twice = file 1 1 3 ∷ file 1 2 6 ∷ []
 
-the_same_base_twice : AreParts (folder_of rewritten_twice) (file 1 2 6 ∷ [])
-the_same_base_twice = choice_of rewritten_twice (refl, (refl, tt {0})) 6 (refl, (refl, tt {0})) (refl, inl (omega arith), refl)
+the_same_base_twice : AreParts (folder_of rewritten_twice) (file 1 2 6 ∷ []) 6
+the_same_base_twice = parts_of rewritten_twice (refl, (refl, tt {0})) 6 (refl, (refl, tt {0})) (refl, inl (omega arith), refl) (plain_ended (file 1 2 6 ∷ []) (refl, tt {0}))
 
 abbrev with_new_tail : List Part
 with_new_tail = file 1 1 4 ∷ file 5 2 4 ∷ []
 
-an_empty_tail_is_a_part : AreParts (folder_of with_new_tail) (file 1 1 4 ∷ file 5 2 4 ∷ [])
-an_empty_tail_is_a_part = choice_of with_new_tail (refl, (refl, tt {0})) 4 (refl, (refl, tt {0})) (refl, inl (omega arith), (refl, inr (refl, refl), refl))
+an_empty_tail_is_a_part : AreParts (folder_of with_new_tail) (file 1 1 4 ∷ file 5 2 4 ∷ []) 4
+an_empty_tail_is_a_part = parts_of with_new_tail (refl, (refl, tt {0})) 4 (refl, (refl, tt {0})) (refl, inl (omega arith), (refl, inr (refl, refl), refl)) (plain_ended (file 1 1 4 ∷ file 5 2 4 ∷ []) (refl, (refl, tt {0})))
 
 abbrev over_empty : List Part
 over_empty = file 1 1 0 ∷ file 1 2 4 ∷ []
 
-an_empty_file_lies_in_a_newer_one : AreParts (folder_of over_empty) (file 1 2 4 ∷ [])
-an_empty_file_lies_in_a_newer_one = choice_of over_empty (refl, (refl, tt {0})) 4 (refl, (refl, tt {0})) (refl, inl (omega arith), refl)
+an_empty_file_lies_in_a_newer_one : AreParts (folder_of over_empty) (file 1 2 4 ∷ []) 4
+an_empty_file_lies_in_a_newer_one = parts_of over_empty (refl, (refl, tt {0})) 4 (refl, (refl, tt {0})) (refl, inl (omega arith), refl) (plain_ended (file 1 2 4 ∷ []) (refl, tt {0}))
 
 abbrev nested : List Part
 nested = file 1 4 9 ∷ file 2 3 8 ∷ file 3 2 7 ∷ []
 
-a_covered_file_of_a_covered_one : AreParts (folder_of nested) (file 1 4 9 ∷ [])
-a_covered_file_of_a_covered_one = choice_of nested (refl, (refl, (refl, tt {0}))) 9 (refl, (refl, (refl, tt {0}))) (refl, inl (omega arith), refl)
+a_covered_file_of_a_covered_one : AreParts (folder_of nested) (file 1 4 9 ∷ []) 9
+a_covered_file_of_a_covered_one = parts_of nested (refl, (refl, (refl, tt {0}))) 9 (refl, (refl, (refl, tt {0}))) (refl, inl (omega arith), refl) (plain_ended (file 1 4 9 ∷ []) (refl, tt {0}))
 
 -- ---- FAULTS
 
@@ -264,3 +278,27 @@ newer_within = file 1 5 10 ∷ file 3 7 4 ∷ file 5 4 6 ∷ []
 
 a_newer_file_within_an_older_one : IsUntiled (folder_of newer_within) (record { base = 3; generation = 7 })
 a_newer_file_within_an_older_one = untiled_of newer_within (refl, (refl, (refl, tt {0}))) (file 3 7 4) 10 (1, omega arith, refl) (refl, inl (omega arith), refl) (λ is. omega (arith, is))
+
+-- ---- THE LAST ENTRY
+
+-- a file that a compaction wrote, without the last entry of its range
+abbrev lacking : ℕ → ℕ → ℕ → Part
+lacking base generation last = record { id = record { base = base; generation = generation }; rewritten = true; last = last; cut = 0; floor = 0; size = 0; entries = []; gate = 64 }
+
+-- an empty file behind it has no entry either
+abbrev lacking_last : List Part
+lacking_last = file 1 1 4 ∷ lacking 5 3 8 ∷ file 9 2 8 ∷ []
+
+an_empty_tail_hides_nothing : IsUnended (folder_of lacking_last) (record { base = 5; generation = 3 })
+an_empty_tail_hides_nothing = unended_of lacking_last (refl, (refl, (refl, tt {0}))) 8 (lacking 5 3 8) (refl, (refl, (refl, tt {0}))) (refl, inl (omega arith), (refl, inl (omega arith), (refl, inr (refl, refl), refl)))
+    (record { front = file 1 1 4 ∷ []; back = file 9 2 8 ∷ []; are = refl; filled = omega arith; empty = λ q has. subst (λ (p : Part). p.last < p.id.base) (only_one (file 9 2 8) q has) (omega arith) })
+    (λ has. absurd (cc (has refl)))
+
+-- where the last file has entries another one may lack its own
+abbrev lacking_first : List Part
+lacking_first = lacking 1 2 4 ∷ file 5 1 6 ∷ []
+
+the_last_file_has_the_last_entry : AreParts (folder_of lacking_first) (lacking 1 2 4 ∷ file 5 1 6 ∷ []) 6
+the_last_file_has_the_last_entry = parts_of lacking_first (refl, (refl, tt {0})) 6 (refl, (refl, tt {0})) (refl, inl (omega arith), (refl, inl (omega arith), refl))
+    (λ p filled. subst HasLast (one_filled (lacking 1 2 4 ∷ file 5 1 6 ∷ []) (file 5 1 6) p
+    (record { front = lacking 1 2 4 ∷ []; back = []; are = refl; filled = omega arith; empty = λ q has. absurd (nothing q has) }) filled) (λ rewritten. absurd (cc rewritten)))

@@ -1,14 +1,17 @@
 -- Images that differ from one of before at one place, as folders.
-use Rattle.std.proofs.Common.{◌≡◌, ◌≢◌, ◌⊎◌, inl, inr, ⊎_elim, ℕ, zero, suc, ◌<◌, Bool, cond, List, [], ◌∷◌, Option, Some, None, refl, sym, ap, subst, ◌∙◌, arith, Contains}
+use Rattle.std.proofs.Common.{◌≡◌, ◌≢◌, ◌⊎◌, inl, inr, ⊎_elim, ℕ, zero, suc, ◌+◌, ◌<◌, ◌≤◌, Bool, false, cond, List, [], ◌∷◌, ◌++◌, Option, Some, None, refl, sym, ap, subst, ◌∙◌, arith, Contains}
 use Rattle.std.proofs.lemmas.Bool.{cases_Bool}
+use Rattle.std.proofs.lemmas.List.Elements.{Contains-append_left, Contains-push_cases, Contains-push}
 use Rattle.disk_model.specs.declared.file_id.FileId.{FileId}
 use Rattle.disk_model.specs.Image.{Place, Image, place, same_place}
 use Rattle.disk_model.specs.View.{View, MayHold, MayLeave, IsSound}
 use Rattle.disk_model.proofs.Names.{same_when, same_to, place_cases}
 use Rattle.disk_model.proofs.Places.{own}
 use Rattle.segment_files.specs.Files.{KeepsOthers}
-use Rattle.segment_files.specs.Parse.{Part, Found, Closed, Whole, Damaged}
-use Rattle.segment_files.specs.Folder.{Folder, found, folder, IsChoice}
+use Rattle.segment_files.specs.Parse.{Part, Closed, Whole, Damaged, parse}
+use Rattle.segment_files.specs.Folder.{Folder, LiesIn, Span, found, folder, span, IsChoice}
+use Rattle.segment_set.proofs.Appended.{parse_id}
+use Rattle.segment_set.proofs.Numbering.{IsPlain, plain_part}
 
 pub nothing : {X : Type 0} (x : X) → Contains [] x → ⊥
 nothing x h = let lt : h.0 < 0 = h.1 in omega arith
@@ -55,39 +58,79 @@ kept_at old new p keeps q None ne held = keeps.else_left q None ne held
 kept_at old new p keeps q (Some c) ne (inl held) = inl (keeps.bytes_left q c ne held)
 kept_at old new p keeps q (Some c) ne (inr held) = inr (keeps.else_left q (Some c) ne held)
 
--- a folder that has one part
-pub one_part : (files : Folder) (p : Part) → files p.id ≡ Whole p → ((id : FileId) → (files id ≡ Closed) ⊎ (id ≡ p.id)) → IsChoice files (p ∷ [])
-one_part files p whole others = record {
-  stand = λ q has. let is = only_one p q has in subst (λ (r : Part). files r.id ≡ Whole r) is whole;
-  cover = λ id q is. ⊎_elim (λ closed. absurd (cc (closed, is)))
-      (λ at. let same : p ≡ q = cc (ap files at, whole, is) in subst (λ (r : Part). Contains (p ∷ []) r) same (here p []))
-      (others id);
-  undamaged = λ id at bad. ⊎_elim (λ closed. absurd (cc (closed, bad))) (λ same. absurd (cc (ap files same, whole, bad))) (others id);
-  one = omega arith;
-}
-
--- and one that has none
-pub no_part : (files : Folder) → ((id : FileId) → files id ≡ Closed) → IsChoice files []
-no_part files closed = record {
-  stand = λ q has. absurd (nothing q has);
-  cover = λ id q is. absurd (cc (closed id, is));
-  undamaged = λ id at bad. absurd (cc (closed id, bad));
-  one = omega arith;
-}
-
--- what the other files are beside one part
-pub beside_part : (files : Folder) (p : Part) → IsChoice files (p ∷ []) → ((id : FileId) (q : Part) → files id ≡ Whole q → q.id ≡ id) → (id : FileId) → (files id ≡ Closed) ⊎ (id ≡ p.id)
-beside_part files p choice ids id = at (files id) refl
+-- a part stands at its own id
+pub own_id : (name : List ℕ) (c : Image) (id : FileId) (q : Part) → folder name c id ≡ Whole q → q.id ≡ id
+own_id name c id q whole = go (c (place name id)) whole
   where
-    at : (f : Found) → files id ≡ f → (files id ≡ Closed) ⊎ (id ≡ p.id)
-    at Closed is = inl is
-    at (Whole q) is = inr (sym (ids id q is) ∙ ap (λ (r : Part). r.id) (sym (only_one p q (choice.cover id q is))))
-    at (Damaged n) is = absurd (choice.undamaged id n is)
+    go : (o : Option (List ℕ)) → found id o ≡ Whole q → q.id ≡ id
+    go None is = absurd (cc)
+    go (Some b) is = parse_id id b q is
 
-pub all_closed : (files : Folder) → IsChoice files [] → (id : FileId) → files id ≡ Closed
-all_closed files choice id = at (files id) refl
+-- the bytes of a part
+pub bytes_of : (name : List ℕ) (c : Image) (id : FileId) (q : Part) → folder name c id ≡ Whole q → (b : List ℕ) × (c (place name id) ≡ Some b) × (parse id b ≡ Whole q)
+bytes_of name c id q whole = go (c (place name id)) refl whole
   where
-    at : (f : Found) → files id ≡ f → files id ≡ Closed
-    at Closed is = is
-    at (Whole q) is = absurd (nothing q (choice.cover id q is))
-    at (Damaged n) is = absurd (choice.undamaged id n is)
+    go : (o : Option (List ℕ)) → c (place name id) ≡ o → found id o ≡ Whole q → (b : List ℕ) × (c (place name id) ≡ Some b) × (parse id b ≡ Whole q)
+    go None is none = absurd (cc)
+    go (Some b) is some = (b, is, some)
+
+-- one that no compaction wrote is plain
+pub whole_plain : (name : List ℕ) (c : Image) (id : FileId) (p : Part) → folder name c id ≡ Whole p → p.rewritten ≡ false → IsPlain id p
+whole_plain name c id p whole plain = let b = bytes_of name c id p whole in plain_part id b.0 p b.2 plain
+
+-- ---- FOLDERS that differ at one file
+
+module _ (before after : Folder) (id : FileId) (others : (other : FileId) → (after other ≡ before other) ⊎ (other ≡ id)) where
+  -- the file is closed, and no part
+  pub still : (parts : List Part) → after id ≡ Closed → ((p : Part) → Contains parts p → p.id ≡ id → ⊥) → IsChoice before parts → IsChoice after parts
+  still parts shut apart choice = record {
+    stand = λ p has. ⊎_elim (λ same. same ∙ choice.stand p has) (λ at. absurd (apart p has at)) (others p.id);
+    cover = λ other q is. ⊎_elim (λ same. choice.cover other q (sym same ∙ is)) (λ at. absurd (cc (ap after at, shut, is))) (others other);
+    undamaged = λ other at bad. ⊎_elim (λ same. choice.undamaged other at (sym same ∙ bad)) (λ here. absurd (cc (ap after here, shut, bad))) (others other);
+  }
+
+  -- it is a new part behind the others
+  pub added : (parts : List Part) (new : Part) → after id ≡ Whole new → new.id ≡ id → ((p : Part) → Contains parts p → p.id ≡ id → ⊥) → IsChoice before parts → IsChoice after (parts ++ new ∷ [])
+  added parts new whole named apart choice = record {
+    stand = λ p has. ⊎_elim
+        (λ old. ⊎_elim (λ same. same ∙ choice.stand p old) (λ at. absurd (apart p old at)) (others p.id))
+        (λ is. subst (λ (r : Part). after r.id ≡ Whole r) is (ap after named ∙ whole))
+        (Contains-push_cases parts new p has);
+    cover = λ other q is. ⊎_elim
+        (λ same. ⊎_elim (λ old. inl (Contains-append_left parts (new ∷ []) q old)) (λ up. inr (up.0, Contains-append_left parts (new ∷ []) up.0 up.1, up.2)) (choice.cover other q (sym same ∙ is)))
+        (λ at. let same : new ≡ q = cc (ap after at, whole, is) in inl (subst (λ (r : Part). Contains (parts ++ new ∷ []) r) same (Contains-push parts new)))
+        (others other);
+    undamaged = λ other at bad. ⊎_elim (λ same. choice.undamaged other at (sym same ∙ bad)) (λ here. absurd (cc (ap after here, whole, bad))) (others other);
+  }
+
+  -- it is the last part, and has a longer range
+  pub changed : (front : List Part) (old new : Part) → ((other : FileId) (q : Part) → before other ≡ Whole q → q.id ≡ other) → after id ≡ Whole new → old.id ≡ id → new.id ≡ id → old.last ≤ new.last → ((p : Part) → Contains front p → p.id ≡ id → ⊥)
+      → IsChoice before (front ++ old ∷ []) → IsChoice after (front ++ new ∷ [])
+  changed front old new own whole named same_id longer apart choice = record {
+    stand = λ p has. ⊎_elim
+        (λ before_it. ⊎_elim (λ same. same ∙ choice.stand p (Contains-append_left front (old ∷ []) p before_it)) (λ at. absurd (apart p before_it at)) (others p.id))
+        (λ is. subst (λ (r : Part). after r.id ≡ Whole r) is (ap after same_id ∙ whole))
+        (Contains-push_cases front new p has);
+    cover = λ other q is. ⊎_elim
+        (λ same. ⊎_elim
+        (λ has. ⊎_elim (λ f. inl (Contains-append_left front (new ∷ []) q f))
+        (λ is_old. let here : other ≡ id = sym (own other q (sym same ∙ is)) ∙ ap (λ (r : Part). r.id) (sym is_old) ∙ named in
+        let same_one : new ≡ q = cc (ap after here, whole, is) in
+        inl (subst (λ (r : Part). Contains (front ++ new ∷ []) r) same_one (Contains-push front new)))
+        (Contains-push_cases front old q has))
+        (λ up. ⊎_elim (λ f. inr (up.0, Contains-append_left front (new ∷ []) up.0 f, up.2))
+        (λ is_old. inr (new, Contains-push front new, wider (span q) (subst (λ (r : Part). LiesIn (span q) (span r)) (sym is_old) up.2)))
+        (Contains-push_cases front old up.0 up.1))
+        (choice.cover other q (sym same ∙ is)))
+        (λ at. let same : new ≡ q = cc (ap after at, whole, is) in inl (subst (λ (r : Part). Contains (front ++ new ∷ []) r) same (Contains-push front new)))
+        (others other);
+    undamaged = λ other at bad. ⊎_elim (λ same. choice.undamaged other at (sym same ∙ bad)) (λ here. absurd (cc (ap after here, whole, bad))) (others other);
+  }
+    where
+      wider : (a : Span) → LiesIn a (span old) → LiesIn a (span new)
+      wider a lies = record {
+        newer = omega (arith, lies.newer, ap (λ (i : FileId). i.generation) named, ap (λ (i : FileId). i.generation) same_id);
+        base = omega (arith, lies.base, ap (λ (i : FileId). i.base) named, ap (λ (i : FileId). i.base) same_id);
+        last = omega (arith, lies.last, longer);
+        touches = ⊎_elim (λ within. inl (omega (arith, within, longer))) (λ at. inr (omega (arith, at, ap (λ (i : FileId). i.base) named, ap (λ (i : FileId). i.base) same_id))) lies.touches;
+      }

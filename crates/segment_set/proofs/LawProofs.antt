@@ -1,5 +1,5 @@
 -- The laws of the parts of a folder.
-use Rattle.std.proofs.Common.{◌≡◌, ◌⊎◌, inl, inr, ⊎_elim, ℕ, Bool, true, false, List, ◌∷◌, ◌++◌, Option, Some, None, refl, sym, ap, subst, ◌∙◌, arith, Contains, if◌then◌else◌}
+use Rattle.std.proofs.Common.{◌≡◌, ◌⊎◌, inl, inr, ⊎_elim, ℕ, ◌<◌, Bool, true, false, List, ◌∷◌, ◌++◌, Option, Some, None, refl, sym, ap, subst, ◌∙◌, arith, Contains, if◌then◌else◌}
 use Rattle.std.proofs.lemmas.List.Elements.{Contains-append_left, Contains-append_right, Contains-append_cases}
 use Rattle.std.proofs.lemmas.Bool.{cases_Bool, cases_lt}
 use Rattle.disk_model.specs.declared.file_id.FileId.{FileId}
@@ -7,12 +7,13 @@ use Rattle.disk_model.specs.Image.{Image, IsBelow, place}
 use Rattle.segment_files.specs.Files.{is_open, open_bytes, opened}
 use Rattle.segment_files.specs.Parse.{Part, Closed, Whole, Damaged}
 use Rattle.segment_files.specs.Folder.{Folder, found, folder}
-use Rattle.segment_set.specs.Choice.{span, LiesIn, IsChoice, IsPart, IsUntiled, IsFault}
-use Rattle.segment_set.specs.ChoiceLaws.{AreParts, IsSuperseded, Replaces}
+use Rattle.segment_files.specs.Folder.{span, AreParts, HasLast, IsLastFilled, LiesIn, IsChoice, IsPart, IsUntiled, IsUnended, IsFault, Tiles}
+use Rattle.segment_set.specs.ChoiceLaws.{IsSuperseded, Replaces}
 use Rattle.segment_set.proofs.Appended.{parse_shut}
+use Rattle.segment_set.proofs.Filled.{ended_replaced, one_filled}
 use Rattle.segment_set.proofs.Images.{one_of, here}
 use Rattle.segment_set.proofs.Lying.{further, there}
-use Rattle.segment_set.proofs.Tiling.{from_next, to_last, apart, put_in, same_parts, next_begins}
+use Rattle.segment_set.proofs.Tiling.{from_next, to_last, apart, put_in, same_last, same_parts, next_begins}
 
 -- a file is what it is without its closed forms
 pub found_opened : (id : FileId) (o : Option (List ℕ)) → found id (open_bytes o) ≡ found id o
@@ -33,33 +34,47 @@ same_folder name c d is = sym (folder_opened name c) ∙ ap (folder name) is ∙
 
 -- ---- THE PARTS
 
-pub is_part : (files : Folder) (parts : List Part) → AreParts files parts → (p : Part) → Contains parts p → IsPart files p
-is_part files parts are p has = record {
-  whole = are.choice.stand p has;
+pub top_part : (files : Folder) (parts : List Part) (last : ℕ) → IsChoice files parts → Tiles 1 parts last → (p : Part) → Contains parts p → IsPart files p
+top_part files parts last choice tile p has = record {
+  whole = choice.stand p has;
   top = λ id q whole lies. ⊎_elim
-      (λ too. apart 1 parts are.last p q are.tile has too lies)
-      (λ up. apart 1 parts are.last p up.0 are.tile has up.1 (further (span p) (span q) (span up.0) lies up.2))
-      (are.choice.cover id q whole);
+      (λ too. apart 1 parts last p q tile has too lies)
+      (λ up. apart 1 parts last p up.0 tile has up.1 (further (span p) (span q) (span up.0) lies up.2))
+      (choice.cover id q whole);
 }
+
+pub is_part : (files : Folder) (parts : List Part) (last : ℕ) → AreParts files parts last → (p : Part) → Contains parts p → IsPart files p
+is_part files parts last are = top_part files parts last are.choice are.tile
 
 pub part_is : (files : Folder) (parts : List Part) → IsChoice files parts → (p : Part) → IsPart files p → Contains parts p
 part_is files parts choice p part = ⊎_elim (λ has. has) (λ up. absurd (part.top up.0.id up.0 (choice.stand up.0 up.1) up.2)) (choice.cover p.id p part.whole)
 
-pub one_list : (files : Folder) (parts others : List Part) → AreParts files parts → AreParts files others → parts ≡ others
-one_list files parts others a b = same_parts 1 parts others a.last b.last a.tile b.tile
-    (λ p has. part_is files others b.choice p (is_part files parts a p has))
-    (λ p has. part_is files parts a.choice p (is_part files others b p has))
+pub one_choice : (files : Folder) (parts others : List Part) (last end : ℕ) → IsChoice files parts → Tiles 1 parts last → IsChoice files others → Tiles 1 others end → parts ≡ others
+one_choice files parts others last end a tile_a b tile_b = same_parts 1 parts others last end tile_a tile_b
+    (λ p has. part_is files others b p (top_part files parts last a tile_a p has))
+    (λ p has. part_is files parts a p (top_part files others end b tile_b p has))
+
+pub one_list : (files : Folder) (parts others : List Part) (last end : ℕ) → AreParts files parts last → AreParts files others end → (parts ≡ others) × (last ≡ end)
+one_list files parts others last end a b =
+    let same = one_choice files parts others last end a.choice a.tile b.choice b.tile in
+    (same, same_last 1 others last end (subst (λ (l : List Part). Tiles 1 l last) same a.tile) b.tile)
 
 -- ---- THE FAULT
 
-pub no_fault : (files : Folder) (parts : List Part) → AreParts files parts → (id : FileId) (at : ℕ) → IsFault files id at → ⊥
-no_fault files parts are id at (inl damaged) = are.choice.undamaged id at damaged.damaged
-no_fault files parts are id at (inr fault) =
+no_untiled : (files : Folder) (parts : List Part) (last : ℕ) → IsChoice files parts → Tiles 1 parts last → (id : FileId) → IsUntiled files id → ⊥
+no_untiled files parts last choice tile id u =
+    u.untiled (next_begins 1 parts u.earlier u.part last u.last tile u.tile
+    (λ p has. let is = (u.are p).0 has in (part_is files parts choice p is.0, subst (λ (i : FileId). IsBelow p.id i) (sym u.id_is) is.1))
+    (part_is files parts choice u.part u.is_part)
+    (λ p has below. (u.are p).1 (top_part files parts last choice tile p has, subst (λ (i : FileId). IsBelow p.id i) u.id_is below)))
+
+pub no_fault : (files : Folder) (parts : List Part) (last : ℕ) → AreParts files parts last → (id : FileId) (at : ℕ) → IsFault files id at → ⊥
+no_fault files parts last are id at (inl damaged) = are.choice.undamaged id at damaged.damaged
+no_fault files parts last are id at (inr (inl fault)) = no_untiled files parts last are.choice are.tile id fault.0
+no_fault files parts last are id at (inr (inr fault)) =
     let u = fault.0 in
-    u.untiled (next_begins 1 parts u.earlier u.part are.last u.last are.tile u.tile
-    (λ p has. let is = (u.are p).0 has in (part_is files parts are.choice p is.0, subst (λ (i : FileId). IsBelow p.id i) (sym u.id_is) is.1))
-    (part_is files parts are.choice u.part u.is_part)
-    (λ p has below. (u.are p).1 (is_part files parts are p has, subst (λ (i : FileId). IsBelow p.id i) u.id_is below)))
+    let same = one_choice files u.parts parts u.last last u.choice u.tile are.choice are.tile in
+    u.unended (are.ended u.part (subst (λ (l : List Part). IsLastFilled l u.part) same u.last_filled))
 
 in_order : (a b : FileId) → IsBelow a b ⊎ (IsBelow b a ⊎ (a ≡ b))
 in_order a b = ⊎_elim
@@ -90,30 +105,41 @@ not_below files id other u w below = u.untiled (next_begins 1 w.earlier u.earlie
     through a b c (inr x) (inl y) = inl (omega (arith, x.0, y))
     through a b c (inr x) (inr y) = inr (x.0 ∙ y.0, omega (arith, x.1, y.1))
 
+-- one file lacks its last entry
+one_unended : (files : Folder) (id other : FileId) → IsUnended files id → IsUnended files other → id ≡ other
+one_unended files id other a b =
+    let same = one_choice files a.parts b.parts a.last b.last a.choice a.tile b.choice b.tile in
+    sym a.id_is ∙ ap (λ (p : Part). p.id) (one_filled b.parts a.part b.part (subst (λ (l : List Part). IsLastFilled l a.part) same a.last_filled) b.last_filled) ∙ b.id_is
+
 pub one_fault : (files : Folder) (id other : FileId) (at place : ℕ) → IsFault files id at → IsFault files other place → (id ≡ other) × (at ≡ place)
-one_fault files id other at place (inl a) (inl b) = ⊎_elim
+one_fault files id other at other_at (inl a) (inl b) = ⊎_elim
     (λ below. absurd (b.first id at below a.damaged))
-    (λ rest. ⊎_elim (λ above. absurd (a.first other place above b.damaged)) (λ same. (same, cc (ap files same, a.damaged, b.damaged))) rest)
+    (λ rest. ⊎_elim (λ above. absurd (a.first other other_at above b.damaged)) (λ same. (same, cc (ap files same, a.damaged, b.damaged))) rest)
     (in_order id other)
-one_fault files id other at place (inl a) (inr b) = absurd (b.0.undamaged id at a.damaged)
-one_fault files id other at place (inr a) (inl b) = absurd (a.0.undamaged other place b.damaged)
-one_fault files id other at place (inr a) (inr b) = ⊎_elim
+one_fault files id other at other_at (inl a) (inr (inl b)) = absurd (b.0.undamaged id at a.damaged)
+one_fault files id other at other_at (inl a) (inr (inr b)) = absurd (b.0.choice.undamaged id at a.damaged)
+one_fault files id other at other_at (inr (inl a)) (inl b) = absurd (a.0.undamaged other other_at b.damaged)
+one_fault files id other at other_at (inr (inr a)) (inl b) = absurd (a.0.choice.undamaged other other_at b.damaged)
+one_fault files id other at other_at (inr (inl a)) (inr (inl b)) = ⊎_elim
     (λ below. absurd (not_below files id other a.0 b.0 below))
     (λ rest. ⊎_elim (λ above. absurd (not_below files other id b.0 a.0 above)) (λ same. (same, a.1 ∙ sym b.1)) rest)
     (in_order id other)
+one_fault files id other at other_at (inr (inl a)) (inr (inr b)) = absurd (no_untiled files b.0.parts b.0.last b.0.choice b.0.tile id a.0)
+one_fault files id other at other_at (inr (inr a)) (inr (inl b)) = absurd (no_untiled files a.0.parts a.0.last a.0.choice a.0.tile other b.0)
+one_fault files id other at other_at (inr (inr a)) (inr (inr b)) = (one_unended files id other a.0 b.0, a.1 ∙ sym b.1)
 
 -- ---- FILES THAT COUNT FOR NOTHING
 
-pub beside : (before after : Folder) (parts : List Part) → AreParts before parts
-    → ((id : FileId) → (after id ≡ before id) ⊎ (IsSuperseded before parts id × IsSuperseded after parts id)) → AreParts after parts
-beside before after parts are differ = record {
+pub beside : (before after : Folder) (parts : List Part) (last : ℕ) → AreParts before parts last
+    → ((id : FileId) → (after id ≡ before id) ⊎ (IsSuperseded before parts id × IsSuperseded after parts id)) → AreParts after parts last
+beside before after parts last are differ = record {
   choice = record {
     stand = λ p has. ⊎_elim
         (λ same. same ∙ are.choice.stand p has)
         (λ gone. ⊎_elim
         (λ none. absurd (cc (none, are.choice.stand p has)))
         (λ lies. let is : lies.0 ≡ p = cc (lies.2, are.choice.stand p has) in
-        absurd (apart 1 parts are.last p lies.1 are.tile has lies.3 (subst (λ (r : Part). LiesIn (span r) (span lies.1)) is lies.4)))
+        absurd (apart 1 parts last p lies.1 are.tile has lies.3 (subst (λ (r : Part). LiesIn (span r) (span lies.1)) is lies.4)))
         gone.0)
         (differ p.id);
     cover = λ id q whole. ⊎_elim
@@ -128,8 +154,8 @@ beside before after parts are differ = record {
         (λ gone. ⊎_elim (λ none. absurd (cc (none, bad))) (λ lies. absurd (cc (lies.2, bad))) gone.1)
         (differ id);
   };
-  last = are.last;
   tile = are.tile;
+  ended = are.ended;
 }
 
 -- ---- A PART IN PLACE OF OTHERS
@@ -143,12 +169,13 @@ in_new new run replaces q has = record {
   touches = inl (omega (arith, (replaces.older q has).1, to_last new.id.base run new.last q replaces.range has));
 }
 
-module _ (before after : Folder) (new : Part) (front run back : List Part)
+module _ (before after : Folder) (new : Part) (front run back : List Part) (last : ℕ)
     (others : (id : FileId) → (after id ≡ before id) ⊎ (id ≡ new.id))
     (was : before new.id ≡ Closed)
     (is_new : after new.id ≡ Whole new)
     (replaces : Replaces new run)
-    (are : AreParts before (front ++ run ++ back)) where
+    (has_last : ((q : Part) → Contains back q → q.last < q.id.base) → HasLast new)
+    (are : AreParts before (front ++ run ++ back) last) where
   -- where a part of before is
   sides : (p : Part) → Contains (front ++ run ++ back) p → Contains (front ++ new ∷ back) p ⊎ Contains run p
   sides p has = ⊎_elim
@@ -185,5 +212,5 @@ module _ (before after : Folder) (new : Part) (front run back : List Part)
         (others id);
   }
 
-  pub replaced : AreParts after (front ++ new ∷ back)
-  replaced = record { choice = chosen; last = are.last; tile = put_in 1 front run back new are.last replaces are.tile }
+  pub replaced : AreParts after (front ++ new ∷ back) last
+  replaced = record { choice = chosen; tile = put_in 1 front run back new last replaces are.tile; ended = ended_replaced new front run back replaces has_last are.ended }

@@ -1,13 +1,14 @@
 -- Files that lie in one another, and those that are kept one behind the other. For `Choice`.
-use Rattle.std.proofs.Common.{◌≡◌, ◌≢◌, inl, inr, ⊎_elim, ℕ, suc, ◌+◌, ◌-◌, ◌≤◌, ◌<◌, List, [], ◌∷◌, ◌++◌, length, take, drop, get_or, refl, sym, ap, subst, ◌∙◌, arith, drop-cons, Contains}
+use Rattle.std.proofs.Common.{◌≡◌, ◌≢◌, ◌⊎◌, inl, inr, ⊎_elim, ℕ, suc, ◌+◌, ◌-◌, ◌≤◌, ◌<◌, true, ◌&&◌, nat_eq, nat_le, List, [], ◌∷◌, ◌++◌, length, take, drop, get_or, refl, sym, ap, subst, ◌∙◌, arith, drop-cons, Contains}
 use Rattle.std.specs.List.{HoldsAt}
 use Rattle.std.proofs.lemmas.List.{take_more, take_all, take-append-drop}
 use Rattle.std.proofs.lemmas.List.Elements.{Contains-append_right, Contains-append_left, Contains-push_cases, Contains-push}
-use Rattle.std.proofs.lemmas.Bool.{cases_lt}
+use Rattle.std.proofs.lemmas.Bool.{and_from, and_parts, cases_lt, eq-eqb, le-leb}
 use Rattle.disk_model.specs.Image.{IsBelow}
 use Rattle.segment_set.specs.declared.opened.Opened.{Opened}
-use Rattle.segment_set.specs.Choice.{Span, LiesIn}
-use Rattle.segment_set.specs.Sifting.{opened_span, LiesInLast, LastLiesIn, IfFirst, AreStacked, Ends, IsFirstApart}
+use Rattle.segment_files.specs.Folder.{Span, LiesIn}
+use Rattle.segment_set.specs.Sifting.{opened_span, LiesInLast, LastLiesIn, IfFirst, AreStacked, Ends, IsFirstApart, IsLastEmpty}
+use Rattle.segment_set.specs.Joined.{are_joined, are_tiled}
 use Rattle.segment_set.proofs.Images.{nothing, one_of, here}
 
 pub further : (a b c : Span) → LiesIn a b → LiesIn b c → LiesIn a c
@@ -23,7 +24,7 @@ not_in_itself a x = omega (arith, x.newer)
 
 -- an empty range ends right before its base
 pub hardly_empty : (one : Opened) → one.id.base ≤ one.part.last + 1
-hardly_empty one = omega (arith, one.last_is, one.base_first)
+hardly_empty one = omega (arith, one.bounds.from)
 
 pub there : {X : Type 0} (y : X) (ys : List X) (x : X) → Contains ys x → Contains (y ∷ ys) x
 there y ys x h = Contains-append_right (y ∷ []) ys x h
@@ -145,7 +146,7 @@ at_index xs n x lt is =
     next : (n : ℕ) → suc n ≡ n + 1
     next n = omega arith
 
-pub first_apart : (xs items : List Opened) (n next : ℕ) (x : Opened) → items ≡ xs → n < length items → x ≡ get_or items n x → Ends 1 (take n items) next → x.id.base ≢ next → IsFirstApart xs x.id
+pub first_apart : (xs items : List Opened) (n next : ℕ) (x : Opened) → items ≡ xs → n < length items → x ≡ get_or items n x → Ends 1 (take n items) next → (x.id.base ≢ next) ⊎ IsLastEmpty (take n items) → IsFirstApart xs x.id
 first_apart xs items n next x same lt is ends apart = record {
   earlier = take n items;
   one = x;
@@ -159,3 +160,27 @@ first_apart xs items n next x same lt is ends apart = record {
 
 pub ends_next : (items : List Opened) (n next : ℕ) (x : Opened) → n < length items → x ≡ get_or items n x → Ends 1 (take n items) next → x.id.base ≡ next → Ends 1 (take (n + 1) items) (x.part.last + 1)
 ends_next items n next x lt is ends at = subst (λ (l : List Opened). Ends 1 l (x.part.last + 1)) (ap (λ (o : Opened). take n items ++ o ∷ []) is ∙ sym (take_more items n x lt)) (ends_more 1 (take n items) next x ends at)
+
+-- ---- JOINED, as the code tests it
+
+pub joined_more : (from : ℕ) (xs : List Opened) (to : ℕ) (x : Opened) → are_joined from xs ≡ true → Ends from xs to → x.id.base ≡ to → to ≤ x.part.last → are_joined from (xs ++ x ∷ []) ≡ true
+joined_more from [] to x joined ends at long =
+    and_from (nat_eq x.id.base from && nat_le from x.part.last) true
+    (and_from (nat_eq x.id.base from) (nat_le from x.part.last) (eq-eqb x.id.base from (at ∙ sym ends)) (le-leb from x.part.last (omega (arith, ends, long))))
+    refl
+joined_more from (o ∷ xs) to x joined ends at long =
+    let parts = and_parts (nat_eq o.id.base from && nat_le from o.part.last) (are_joined (o.part.last + 1) xs) joined in
+    and_from (nat_eq o.id.base from && nat_le from o.part.last) (are_joined (o.part.last + 1) (xs ++ x ∷ [])) parts.0
+    (joined_more (o.part.last + 1) xs to x parts.1 ends.1 at long)
+
+-- and one behind them
+pub tiled_more : (from : ℕ) (xs : List Opened) (to : ℕ) (x : Opened) → are_joined from xs ≡ true → Ends from xs to → x.id.base ≡ to → are_tiled from (xs ++ x ∷ []) ≡ true
+tiled_more from [] to x joined ends at = eq-eqb x.id.base from (at ∙ sym ends)
+tiled_more from (o ∷ []) to x joined ends at =
+    let parts = and_parts (nat_eq o.id.base from && nat_le from o.part.last) true joined in
+    and_from (nat_eq o.id.base from && nat_le from o.part.last) (are_tiled (o.part.last + 1) (x ∷ [])) parts.0
+    (tiled_more (o.part.last + 1) [] to x refl ends.1 at)
+tiled_more from (o ∷ p ∷ xs) to x joined ends at =
+    let parts = and_parts (nat_eq o.id.base from && nat_le from o.part.last) (are_joined (o.part.last + 1) (p ∷ xs)) joined in
+    and_from (nat_eq o.id.base from && nat_le from o.part.last) (are_tiled (o.part.last + 1) (p ∷ xs ++ x ∷ [])) parts.0
+    (tiled_more (o.part.last + 1) (p ∷ xs) to x parts.1 ends.1 at)

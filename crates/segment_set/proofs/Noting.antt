@@ -1,34 +1,32 @@
--- The offset of one entry more is noted.
-use Rattle.std.proofs.Common.{◌≡◌, ℕ, ◌+◌, ◌-◌, ◌<◌, ◌≤◌, List, [], ◌∷◌, ◌++◌, All, length, Some, refl, sym, ap, subst, arith, length-append}
+-- The place of one entry more is noted.
+use Rattle.std.proofs.Common.{◌≡◌, ◌==◌, ℕ, ◌+◌, ◌-◌, ◌<◌, ◌≤◌, true, List, [], ◌∷◌, ◌++◌, All, length, Option, Some, sym, ap, subst, ◌∙◌, arith, length-append}
+use Rattle.std.proofs.lemmas.Bool.{eqb-true}
 use Rattle.std.proofs.lemmas.List.Elements.{All-push, All-weaker}
-use Rattle.offset_index.specs.Indexed.{MayFollow}
-use Rattle.disk_model.specs.View.{View}
-use Rattle.segment_files.specs.Contents.{AreBelow, Offset_list}
-use Rattle.segment_files.specs.Parse.{Part}
+use Rattle.segment_files.specs.Contents.{AreBelow, Offset_list, last_read}
+use Rattle.segment_files.proofs.PuttingDown.{last_pushed}
+use Rattle.segment_set.specs.declared.parts.Parts.{Parts}
 use Rattle.segment_set.specs.declared.tail.Tail.{Tail}
-use Rattle.segment_set.specs.Fits.{ArePlaced, HasOffsets, IsTailAt}
+use Rattle.segment_set.specs.Advance.{noted}
+use Rattle.segment_set.specs.Joined.{ends_with}
+use Rattle.segment_set.specs.Tails.{tail_base, tail_count, tail_gate, tail_last}
 
-module _ (os : Offset_list) (last gate place : ℕ) (count : length os ≡ last) (below : AreBelow 1 last os gate) (le : gate ≤ place) where
-  pub noted_may : MayFollow os (last, place)
-  noted_may d some =
-      let it = below (length os - 1) d (omega (arith, some)) in
-      (let k = it.0 in omega (arith, k), let p = it.1 in omega (arith, p, le))
+module _ (old : Parts) (tail : Tail) (some : old.tail ≡ Some tail) where
+  count_is : length old.offsets.items ≡ tail.last + 1 - tail.id.base
+  count_is = old.counted ∙ ap tail_count some
 
-  pub noted_below : (new : Offset_list) (to : ℕ) → new ≡ os ++ (last, place) ∷ [] → place < to → AreBelow 1 (last + 1) new to
-  noted_below new to is lt =
-      let P : ℕ × ℕ → Type 0 = λ p. (1 + p.0 ≤ last + 1) × (p.1 < to) in
+  below_is : AreBelow tail.id.base tail.last old.offsets.items tail.gate
+  below_is = subst (λ (o : Option Tail). AreBelow (tail_base o) (tail_last o) old.offsets.items (tail_gate o)) some old.below
+
+  pub noted_count : (items : Offset_list) → items ≡ noted old.offsets.items tail → length items ≡ tail.last + 2 - tail.id.base
+  noted_count items is = omega (arith, ap length is, length-append old.offsets.items ((tail.last + 1 - tail.id.base, tail.gate + 5) ∷ []), count_is, tail.from)
+
+  pub noted_read : (items : Offset_list) → items ≡ noted old.offsets.items tail → last_read tail.id.base items ≡ tail.last + 1
+  noted_read items is = ap (last_read tail.id.base) is ∙ last_pushed tail.id.base old.offsets.items (tail.last + 1 - tail.id.base, tail.gate + 5) ∙ omega (arith, tail.from)
+
+  pub noted_below : (items : Offset_list) (gate : ℕ) → items ≡ noted old.offsets.items tail → tail.gate + 6 ≤ gate → AreBelow tail.id.base (tail.last + 1) items gate
+  noted_below items gate is longer =
+      let P : ℕ × ℕ → Type 0 = λ p. (tail.id.base + p.0 ≤ tail.last + 1) × (p.1 < gate) in
       subst (All P) (sym is)
-      (All-push P os (last, place)
-      (All-weaker (λ (p : ℕ × ℕ). (1 + p.0 ≤ last) × (p.1 < gate)) P (λ p it. ((let k = it.0 in omega (arith, k)), (let q = it.1 in omega (arith, q, le, lt)))) os below)
-      (omega arith, omega (arith, lt)))
-
-  pub noted_count : (new : Offset_list) → new ≡ os ++ (last, place) ∷ [] → length new ≡ last + 1
-  noted_count new is = omega (arith, ap length is, length-append os ((last, place) ∷ []), count)
-
--- the tail is that part, so its entries stand there
-pub offsets_at : (w : View) (name : List ℕ) (next : Tail) (p : Part) (offsets : Offset_list) → IsTailAt w name next p → ArePlaced w name next.id p offsets → HasOffsets w name (Some next) offsets
-offsets_at w name next p offsets at placed part whole = let same : p ≡ part = cc (at.whole, whole) in subst (λ (q : Part). ArePlaced w name next.id q offsets) same placed
-
-pub none_noted : (os : Offset_list) → length os ≡ 0 → os ≡ []
-none_noted [] is = refl
-none_noted (o ∷ os) is = absurd (omega (arith, is))
+      (All-push P old.offsets.items (tail.last + 1 - tail.id.base, tail.gate + 5)
+      (All-weaker (λ (p : ℕ × ℕ). (tail.id.base + p.0 ≤ tail.last) × (p.1 < tail.gate)) P (λ p it. ((let k = it.0 in omega (arith, k)), (let q = it.1 in omega (arith, q, longer)))) old.offsets.items below_is)
+      (omega (arith, tail.from), omega (arith, longer)))

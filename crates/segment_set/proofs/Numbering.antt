@@ -1,5 +1,5 @@
 -- The entries of an appended file are numbered one after the other.
-use Rattle.std.proofs.Common.{◌≡◌, ℕ, zero, suc, ◌+◌, ◌-◌, Bool, true, false, not, ◌&&◌, nat_eq, nat_lt, nat_le, List, [], ◌∷◌, ◌++◌, length, take, drop, refl, sym, ap, subst, ◌∙◌, arith, if◌then◌else◌}
+use Rattle.std.proofs.Common.{◌≡◌, ℕ, zero, suc, ◌+◌, ◌-◌, Bool, true, false, not, ◌&&◌, nat_eq, nat_lt, nat_le, List, [], ◌∷◌, ◌++◌, length, map, take, drop, refl, sym, ap, subst, ◌∙◌, arith, if◌then◌else◌}
 use Rattle.std.specs.List.{enumerate_from}
 use Rattle.std.proofs.lemmas.List.{map-append, length-map}
 use Rattle.std.proofs.lemmas.Bool.{eqb-true, and_parts}
@@ -7,13 +7,15 @@ use Rattle.host_types.specs.declared.entry.Entry.{Entry}
 use Rattle.disk_model.specs.declared.file_id.FileId.{FileId}
 use Rattle.segment_files.specs.Numbers.{four_at}
 use Rattle.entry_codec.specs.Reading.{Spelling, Spells, Spoils, spelling}
-use Rattle.host_types.specs.Limits.{last_limit}
+use Rattle.host_types.specs.Limits.{index_limit}
 use Rattle.segment_files.proofs.Bodies.{next_follows}
-use Rattle.segment_files.specs.Folder.{counts_as}
-use Rattle.segment_files.specs.Parse.{Numbered, Part, Whole, Body, Holds, Breaks, with_entry, is_misplaced, spelled_first, first_of, body, Framed, Crooked, framed, frame, is_next, frame_room}
-use Rattle.segment_set.specs.Fits.{bare}
+use Rattle.segment_files.specs.Parse.{Numbered, Part, Whole, Body, Holds, Breaks, with_entry, is_misplaced, spelled_first, first_of, body, Framed, Crooked, framed, frame, is_next, frame_room, parse}
 use Rattle.segment_set.proofs.Walks.{Walked, By_byte, At_gate, By_frame, walked, frame_form}
 use Rattle.segment_set.proofs.Appended.{appended}
+
+-- the entries without their indexes
+abbrev pub bare : Numbered → List Entry
+bare entries = map (λ (e : ℕ × Entry). e.1) entries
 
 -- numbered one after the other, behind this index
 pub record Follows (before : ℕ) (es : Numbered) : Type 0 where
@@ -45,7 +47,7 @@ more_follow before a b f g = record {
 }
 
 next_is : (before index : ℕ) → is_next before index ≡ true → index ≡ before + 1
-next_is before index t = eqb-true index (before + 1) (and_parts (nat_eq index (before + 1)) (nat_le index last_limit) t).0
+next_is before index t = eqb-true index (before + 1) (and_parts (nat_eq index (before + 1)) (nat_le index index_limit) t).0
 
 body_none : (room before : ℕ) → body is_next room before [] ≡ Holds []
 unfolding body
@@ -125,19 +127,17 @@ walk_follows _ _ _ _ _ (By_frame before n l ahead es g f w) = more_follow before
 -- what a part of an appended file is
 pub record IsPlain (id : FileId) (p : Part) : Type 0 where
   pub id_is : p.id ≡ id
-  pub plain : p.rewritten ≡ false
   pub last : p.last ≡ id.base - 1 + length p.entries
   pub cut : p.cut ≡ 0
   pub floor : p.floor ≡ 0
   pub numbered : Follows (id.base - 1) p.entries
 
-pub plain_part : (id : FileId) (b : List ℕ) (p : Part) → counts_as id b ≡ Whole p → IsPlain id p
-plain_part id b p whole =
-    let a = appended id b p whole in
+pub plain_part : (id : FileId) (b : List ℕ) (p : Part) → parse id b ≡ Whole p → p.rewritten ≡ false → IsPlain id p
+plain_part id b p whole plain =
+    let a = appended id b p whole plain in
     let entries : p.entries ≡ a.entries = ap (λ (q : Part). q.entries) a.is in
     record {
       id_is = ap (λ (q : Part). q.id) a.is;
-      plain = ap (λ (q : Part). q.rewritten) a.is;
       last = ap (λ (q : Part). q.last) a.is ∙ ap (λ (es : Numbered). id.base - 1 + length es) (sym entries);
       cut = ap (λ (q : Part). q.cut) a.is;
       floor = ap (λ (q : Part). q.floor) a.is;

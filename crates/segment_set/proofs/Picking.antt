@@ -1,7 +1,6 @@
 -- What an opening leaves at each moment.
 use Rattle.std.proofs.Common.{◌≡◌, ◌≢◌, ◌⊎◌, inl, inr, ⊎_elim, ℕ, List, [], ◌∷◌, take, Option, Some, None, refl, sym, ap, subst, ◌∙◌, arith, Contains}
 use Rattle.std.specs.List.{AllPairs}
-use Rattle.host_types.specs.declared.entry.Entry.{Entry}
 use Rattle.disk_model.specs.declared.file_id.FileId.{FileId}
 use Rattle.disk_model.specs.Image.{Place, Image, place, IsBelow}
 use Rattle.disk_model.specs.View.{View, MayHold, MayLeave, IsListed, IsSettled, IsSound, LeavesAt, LeavesOnly}
@@ -11,8 +10,8 @@ use Rattle.disk_model.proofs.Names.{holds_now}
 use Rattle.disk_model.proofs.Places.{own}
 use Rattle.segment_files.specs.Files.{HasNames}
 use Rattle.segment_files.specs.Parse.{Part, Closed}
-use Rattle.segment_files.specs.Folder.{Folder, found, folder, IsChoice, Stands, StandsForPrefix, EachHas}
-use Rattle.segment_set.specs.Fits.{IsInOrder, IsEmptyWhereNone}
+use Rattle.segment_files.specs.Folder.{Folder, found, folder, IsChoice, EachHas}
+use Rattle.segment_set.specs.Fits.{IsEmptyWhereNone}
 use Rattle.segment_set.specs.Load.{OrGone, IsLikeBefore}
 use Rattle.segment_set.proofs.Images.{nothing, here}
 use Rattle.segment_set.proofs.Removing.{id_of}
@@ -34,42 +33,11 @@ rising_apart ids rising = λ i j d lt below is. below_apart _ _ (rising i j d lt
 -- each file of an image is that of an image of before
 module _ (v0 : View) (name : List ℕ) where
   pub like_at_first : (w : View) → LeavesAt v0 w (MayHold v0) → LeavesOnly v0 w (IsLikeBefore v0 name)
-  like_at_first w only = weaker v0 w (λ c. (q : Place) → MayHold v0 q (c q)) (IsLikeBefore v0 name) only (λ c may. record { before = c; may = may; same = refl })
+  like_at_first w only = weaker v0 w (λ c. (q : Place) → MayHold v0 q (c q)) (IsLikeBefore v0 name) only (λ c may. record { before = c; may = may; same = λ parts last are. are })
 
   pub like_still : (v w : View) → IsSound v → LeavesOnly v0 v (IsLikeBefore v0 name) → LeavesAt v w (MayHold v) → LeavesOnly v0 w (IsLikeBefore v0 name)
   like_still v w sound so_far only = goes_further v0 v w (IsLikeBefore v0 name) so_far
       (weaker v w (λ c. (q : Place) → MayHold v q (c q)) (IsLikeBefore v0 name) only (λ c may. has_now v0 v (IsLikeBefore v0 name) sound so_far c may))
-
-  -- with closed files gone
-  pub without_closed : (v : View) (ids : List FileId) (c : Image) → IsSound v → ((id : FileId) → Contains ids id → folder name v.reading id ≡ Closed) → ((q : Place) → OrGone v name ids q (c q)) → IsLikeBefore v name c
-  without_closed v ids c sound closed left =
-      let was : (q : Place) → Was q = λ q. was_at q (left q) in
-      record {
-        before = λ q. (was q).0;
-        may = λ q. (was q).1;
-        same = λ i id. (⊎_elim {C = folder name c id ≡ folder name (λ q. (was q).0) id}
-            (λ same. ap (found id) same)
-            (λ gone. let id_is : id ≡ gone.0 = id_of name id gone.0 gone.2 in
-            ap (found id) gone.3 ∙ sym (ap (found id) gone.4 ∙ subst (λ (j : FileId). folder name v.reading j ≡ Closed) (sym id_is) (closed gone.0 gone.1)))
-            (was (place name id)).2) i;
-      }
-    where
-      Was : Place → Type 0
-      Was q = (o : Option (List ℕ)) × MayHold v q o × ((c q ≡ o) ⊎ ((id : FileId) × Contains ids id × (q ≡ place name id) × (c q ≡ None) × (o ≡ v.reading q)))
-
-      was_at : (q : Place) → OrGone v name ids q (c q) → Was q
-      was_at q (inl held) = (c q, held, inl refl)
-      was_at q (inr gone) = (v.reading q, own v sound q, inr (gone.0, gone.1, gone.2, gone.3, refl))
-
-  pub like_removed : (v w : View) (ids : List FileId) → IsSound v → LeavesOnly v0 v (IsLikeBefore v0 name) → ((id : FileId) → Contains ids id → folder name v.reading id ≡ Closed) → LeavesAt v w (OrGone v name ids) → LeavesOnly v0 w (IsLikeBefore v0 name)
-  like_removed v w ids sound so_far closed only = goes_further v0 v w (IsLikeBefore v0 name) so_far
-      (weaker v w (λ c. (q : Place) → OrGone v name ids q (c q)) (IsLikeBefore v0 name) only
-      (λ c left. let a = without_closed v ids c sound closed left in let b = has_now v0 v (IsLikeBefore v0 name) sound so_far a.before a.may in
-      record { before = b.before; may = b.may; same = a.same ∙ b.same }))
-
-  pub in_order : (w : View) (log : List Entry) (least : ℕ) → IsInOrder v0 name log least → LeavesOnly v0 w (IsLikeBefore v0 name) → LeavesOnly v0 w (StandsForPrefix name log least)
-  in_order w log least order only = weaker v0 w (IsLikeBefore v0 name) (StandsForPrefix name log least) only
-      (λ c like. let p = order like.before like.may in record { count = p.count; enough = p.enough; within = p.within; stands = subst (λ (f : Folder). Stands f (take p.count log)) (sym like.same) p.stands })
 
 pub listed_when : (v : View) (name : List ℕ) (id : FileId) → (folder name v.reading id ≡ Closed → ⊥) → IsListed v (place name id)
 listed_when v name id opens = go (v.reading (place name id)) refl
@@ -79,7 +47,7 @@ listed_when v name id opens = go (v.reading (place name id)) refl
     go (Some b) is = (b, is)
 
 -- once it is settled, each image has the files that were read
-same_as_read : (v0 v : View) (name : List ℕ) → IsSound v → v.reading ≡ v0.reading → ((id : FileId) → IsListed v0 (place name id) → IsSettled v (place name id)) → HasNames v
+pub same_as_read : (v0 v : View) (name : List ℕ) → IsSound v → v.reading ≡ v0.reading → ((id : FileId) → IsListed v0 (place name id) → IsSettled v (place name id)) → HasNames v
     → (c : Image) → MayLeave v c → (id : FileId) → c (place name id) ≡ v0.reading (place name id)
 same_as_read v0 v name sound reading settled names c may id = at (v0.reading (place name id)) refl
   where
@@ -106,12 +74,6 @@ settled_has v0 v name (i ∷ ids) parts sound lists reading settled names before
 
 pub narrow : (v w : View) → IsSound w → LeavesAt v w (MayHold v) → (c : Image) → MayLeave w c → MayLeave v c
 narrow v w sound only c may = has_now v w (λ d. (q : Place) → MayHold v q (d q)) sound only c may
-
--- once closed files are removed
-pub has_after : (v w : View) (name : List ℕ) (ids : List FileId) (parts : List Part) → IsSound v → IsSound w → EachHas v name parts → ((id : FileId) → Contains ids id → folder name v.reading id ≡ Closed) → LeavesAt v w (OrGone v name ids) → EachHas w name parts
-has_after v w name ids parts sound sound_w each closed only c may =
-    let a = without_closed v name v ids c sound closed (has_now v w (λ d. (q : Place) → OrGone v name ids q (d q)) sound_w only c may) in
-    subst (λ (f : Folder). IsChoice f parts) (sym a.same) (each a.before a.may)
 
 -- a settled file stays so while others are removed
 pub settled_after : (v w : View) (name : List ℕ) (ids : List FileId) (id : FileId) → IsSound w → (Contains ids id → ⊥) → w.reading (place name id) ≡ v.reading (place name id)

@@ -8,7 +8,7 @@ use Rattle.std.proofs.lemmas.List.Quantifiers.{all_pairs_push}
 use Rattle.disk_model.specs.declared.file_id.FileId.{FileId}
 use Rattle.disk_model.specs.Image.{IsBelow}
 use Rattle.segment_set.specs.declared.opened.Opened.{Opened}
-use Rattle.segment_set.specs.Choice.{LiesIn}
+use Rattle.segment_files.specs.Folder.{LiesIn}
 use Rattle.segment_set.specs.Sifting.{opened_span, Rise, LiesInLast, LastLiesIn, LiesInOne, AreStacked, Sifted}
 use Rattle.segment_set.proofs.Lying.{further, some_last, stack_front, stack_last, stack_more, still_behind, none_lies}
 use Rattle.segment_set.proofs.Picking.{below_apart}

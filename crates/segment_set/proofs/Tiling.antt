@@ -3,7 +3,7 @@ use Rattle.std.proofs.Common.{◌≡◌, ◌⊎◌, inl, ⊎_elim, ℕ, ◌+◌,
 use Rattle.disk_model.specs.Image.{IsBelow}
 use Rattle.segment_files.specs.Parse.{Part}
 use Rattle.segment_files.specs.Folder.{Tiles}
-use Rattle.segment_set.specs.Choice.{span, LiesIn}
+use Rattle.segment_files.specs.Folder.{span, LiesIn}
 use Rattle.segment_set.specs.ChoiceLaws.{Replaces}
 use Rattle.segment_set.proofs.Images.{nothing, one_of, here}
 use Rattle.segment_set.proofs.Lying.{there}
@@ -108,6 +108,11 @@ same_parts next (p ∷ xs) (q ∷ ys) a b tx ty to from =
     (λ r has. ⊎_elim (λ is. absurd (again next p xs a r tx (sym same ∙ is) has)) (λ more. more) (one_of q ys r (to r (there p xs r has))))
     (λ r has. ⊎_elim (λ is. absurd (again next q ys b r ty (same ∙ is) has)) (λ more. more) (one_of p xs r (from r (there q ys r has)))) in
     λ i. sym same i ∷ tails i
+
+-- and they end at one index
+pub same_last : (next : ℕ) (parts : List Part) (a b : ℕ) → Tiles next parts a → Tiles next parts b → a ≡ b
+same_last next [] a b ta tb = omega (arith, ta, tb)
+same_last next (p ∷ parts) a b ta tb = same_last (p.last + 1) parts a b ta.2 tb.2
 
 -- Some of the parts stand end to end, and all parts below one that comes next are among them: then this one begins where they end.
 pub next_begins : (next : ℕ) (parts earlier : List Part) (one : Part) (last mid : ℕ) → Tiles next parts last → Tiles next earlier mid

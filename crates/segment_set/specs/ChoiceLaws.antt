@@ -4,14 +4,7 @@ use Rattle.disk_model.specs.declared.file_id.FileId.{FileId}
 use Rattle.disk_model.specs.Image.{Image}
 use Rattle.segment_files.specs.Files.{opened}
 use Rattle.segment_files.specs.Parse.{Part, Closed, Whole}
-use Rattle.segment_files.specs.Folder.{Folder, folder, Tiles}
-use Rattle.segment_set.specs.Choice.{span, LiesIn, IsChoice, IsPart, IsFault}
-
--- these are the parts of the folder, and they stand end to end
-pub record AreParts (files : Folder) (parts : List Part) : Type 0 where
-  pub choice : IsChoice files parts
-  pub last : ℕ
-  pub tile : Tiles 1 parts last
+use Rattle.segment_files.specs.Folder.{AreParts, Folder, HasLast, IsFault, IsPart, LiesIn, Tiles, folder, span}
 
 -- Closed files change nothing: images that are equal without them have the same files.
 abbrev pub ClosedFilesChangeNothing : Type 0
@@ -19,15 +12,15 @@ ClosedFilesChangeNothing = (c d : Image) → opened c ≡ opened d → (name : L
 
 -- The parts are exactly the open files that lie in no other open file.
 abbrev pub ThePartsLieInNone : Type 0
-ThePartsLieInNone = (files : Folder) (parts : List Part) → AreParts files parts → (p : Part) → Contains parts p ↔ IsPart files p
+ThePartsLieInNone = (files : Folder) (parts : List Part) (last : ℕ) → AreParts files parts last → (p : Part) → Contains parts p ↔ IsPart files p
 
 -- And so there is one list of them.
 abbrev pub ThePartsAreDetermined : Type 0
-ThePartsAreDetermined = (files : Folder) (parts others : List Part) → AreParts files parts → AreParts files others → parts ≡ others
+ThePartsAreDetermined = (files : Folder) (parts others : List Part) (last end : ℕ) → AreParts files parts last → AreParts files others end → (parts ≡ others) × (last ≡ end)
 
 -- A folder that has parts has no fault, and one that has a fault has no second one.
 abbrev pub PartsOrFault : Type 0
-PartsOrFault = (files : Folder) (parts : List Part) → AreParts files parts → (id : FileId) (at : ℕ) → IsFault files id at → ⊥
+PartsOrFault = (files : Folder) (parts : List Part) (last : ℕ) → AreParts files parts last → (id : FileId) (at : ℕ) → IsFault files id at → ⊥
 
 abbrev pub TheFaultIsDetermined : Type 0
 TheFaultIsDetermined = (files : Folder) (id other : FileId) (at place : ℕ) → IsFault files id at → IsFault files other place → (id ≡ other) × (at ≡ place)
@@ -39,10 +32,10 @@ IsSuperseded files parts id = (files id ≡ Closed) ⊎ ((q : Part) × (p : Part
 -- Such files may be there or not, each of them.
 abbrev pub SupersededFilesChangeNothing : Type 0
 SupersededFilesChangeNothing =
-    (before after : Folder) (parts : List Part)
-    → AreParts before parts
+    (before after : Folder) (parts : List Part) (last : ℕ)
+    → AreParts before parts last
     → ((id : FileId) → (after id ≡ before id) ⊎ (IsSuperseded before parts id × IsSuperseded after parts id))
-    → AreParts after parts
+    → AreParts after parts last
 
 -- the new part is newer than each of the run, none of these is empty, and its range is exactly theirs
 pub record Replaces (new : Part) (run : List Part) : Type 0 where
@@ -50,13 +43,14 @@ pub record Replaces (new : Part) (run : List Part) : Type 0 where
   pub range : Tiles new.id.base run new.last
   pub older : (p : Part) → Contains run p → (p.id.generation < new.id.generation) × (p.id.base ≤ p.last)
 
--- A new part takes the place of those in its range as its gate opens.
+-- A new part takes the place of those in its range as its gate opens. It has the last entry where only empty parts stand behind it.
 abbrev pub ANewPartReplaces : Type 0
 ANewPartReplaces =
-    (before after : Folder) (new : Part) (front run back : List Part)
+    (before after : Folder) (new : Part) (front run back : List Part) (last : ℕ)
     → ((id : FileId) → (after id ≡ before id) ⊎ (id ≡ new.id))
     → before new.id ≡ Closed
     → after new.id ≡ Whole new
     → Replaces new run
-    → AreParts before (front ++ run ++ back)
-    → AreParts after (front ++ new ∷ back)
+    → (((q : Part) → Contains back q → q.last < q.id.base) → HasLast new)
+    → AreParts before (front ++ run ++ back) last
+    → AreParts after (front ++ new ∷ back) last

@@ -1,8 +1,11 @@
+pub mod Advance
 pub mod Appends
-pub mod Choice
 pub mod ChoiceLaws
+pub mod Finding
 pub mod Fits
 pub mod Growth
+pub mod Joined
 pub mod Load
 pub mod Sifting
+pub mod Split
 pub mod Tails

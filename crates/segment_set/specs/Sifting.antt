@@ -1,13 +1,12 @@
 -- Files with an open gate, one after the other, and those of them that are kept.
-use Rattle.std.specs.Prelude.{◌≡◌, ◌≢◌, ◌⊎◌, ◌+◌, ℕ, List, [], ◌∷◌, ◌++◌, Contains}
+use Rattle.std.specs.Prelude.{◌≡◌, ◌≢◌, ◌<◌, ◌⊎◌, ◌+◌, ℕ, List, [], ◌∷◌, ◌++◌, Contains}
 use Rattle.std.specs.List.{AllPairs}
 use Rattle.disk_model.specs.declared.file_id.FileId.{FileId}
 use Rattle.disk_model.specs.Image.{IsBelow}
 use Rattle.segment_files.specs.Parse.{Part, Closed, Whole}
 use Rattle.segment_files.specs.Folder.{Folder}
 use Rattle.segment_set.specs.declared.opened.Opened.{Opened}
-use Rattle.segment_set.specs.Choice.{Span, span, LiesIn}
-use Rattle.segment_set.specs.Fits.{part_list}
+use Rattle.segment_files.specs.Folder.{Span, span, LiesIn}
 
 abbrev pub opened_span : Opened → Span
 opened_span one = record { id = one.id; last = one.part.last }
@@ -24,11 +23,6 @@ IsOpenedAs files one = (part : Part) × (files one.id ≡ Whole part) × (span p
 pub record AreOpen (files : Folder) (opened : List Opened) : Type 0 where
   pub each : (one : Opened) → Contains opened one → IsOpenedAs files one
   pub all : (id : FileId) → (files id ≡ Closed) ⊎ ((one : Opened) × Contains opened one × (one.id ≡ id))
-
--- as parts of their folder
-abbrev pub parts_of : Folder → List Opened → List Part
-parts_of files [] = []
-parts_of files (one ∷ opened) = part_list (files one.id) ++ parts_of files opened
 
 -- they stand end to end from one index up to before another
 abbrev pub Ends : ℕ → List Opened → ℕ → Type 0
@@ -69,7 +63,12 @@ pub record Sifted (opened kept : List Opened) (covered : List FileId) (tops : Li
   pub disjoint : (one : Opened) → Contains kept one → Contains covered one.id → ⊥
   pub stacked : AreStacked kept
 
--- the first of these that doesn't begin where the one before it ends, and the first of all at the first index
+-- the last of these has an empty range
+abbrev pub IsLastEmpty : List Opened → Type 0
+IsLastEmpty files = (front : List Opened) × (one : Opened) × (files ≡ front ++ one ∷ []) × (one.part.last < one.id.base)
+
+-- the first of these that doesn't begin where the one before it ends, and the first of all at the first index; or that stands behind an
+-- empty one
 pub record IsFirstApart (opened : List Opened) (id : FileId) : Type 0 where
   pub earlier : List Opened
   pub one : Opened
@@ -78,4 +77,4 @@ pub record IsFirstApart (opened : List Opened) (id : FileId) : Type 0 where
   pub id_is : one.id ≡ id
   pub next : ℕ
   pub ends : Ends 1 earlier next
-  pub apart : one.id.base ≢ next
+  pub apart : (one.id.base ≢ next) ⊎ IsLastEmpty earlier

@@ -1,24 +1,28 @@
 // A log gets one entry more, in its last file or in a new one.
-ghost use Rattle.std.specs.Prelude.{◌≡◌, ◌<◌, ◌≤◌, ◌+◌, ◌↔◌, ℕ, [], ◌∷◌, ◌++◌, Some, None, is_none, IsTrue, IsNone, IfSome, IfOk, OnOk, OnErr};
-ghost use Rattle.host_types.specs.Limits.{index_limit, last_limit};
+ghost use Rattle.std.specs.Prelude.{◌≡◌, ◌<◌, ◌≤◌, ◌+◌, ◌-◌, ◌↔◌, ℕ, List, [], ◌∷◌, ◌++◌, Some, None, is_none, IsTrue, IsNone, IfSome, IfOk, OnOk};
+ghost use Rattle.host_types.specs.Limits.{index_limit};
 ghost use Rattle.host_types.specs.declared.entry.Entry.{Entry};
 ghost use Rattle.disk_model.specs.Image.{IsFileId, place};
 ghost use Rattle.disk_model.specs.View.{LeavesOnly, HasCause};
 ghost use Rattle.segment_files.specs.Files.{KeepsOthers};
-ghost use Rattle.segment_files.specs.Contents.{Offset_list, appended_descriptor, descriptor_bytes, frame_bytes};
+ghost use Rattle.segment_files.specs.Contents.{Offset_list, appended_descriptor, descriptor_bytes};
 ghost use Rattle.offset_index.specs.Indexed.{MayFollow};
 ghost use Rattle.segment_files.specs.Parse.{Part, Whole};
 ghost use Rattle.segment_files.specs.Folder.{EachHas, folder};
 ghost use Rattle.segment_set.specs.Appends.{Appends, BeginsOn};
-ghost use Rattle.segment_set.specs.Growth.{HasNoneOr, HasOrGains, new_tail};
-ghost use Rattle.segment_set.specs.Fits.{ArePlaced, Fits, IsFrameFor, IsMade, IsNewTail, IsTailAt, TailFits, frame_size, last_of, with_entry, without_room};
+ghost use Rattle.segment_set.specs.Growth.{AreApart, HasOrGrows, HasOrNew, IsFrameFor, frame_size, new_tail, with_entry};
+ghost use Rattle.segment_set.specs.Fits.{ArePlaced, Fits, IsAsBefore, IsFileAt, IsMade, IsNewTail, IsPrepared, TailFits, last_of};
+ghost use Rattle.segment_set.specs.Advance.{Advances};
 
+use crate::opened::Opened;
 use crate::parts::{GENERATION_LIMIT, Parts};
 use crate::tail::Tail;
 use disk_model::{Disk, DiskFault, FileId};
 use host_types::{Index, LogName, NoMemory};
 use offset_index::Offsets;
 use segment_files::{Descriptor, append_frame, make_tail};
+use std::alloc::Global;
+use std::mem;
 
 /// What stands in front of the first entry of a frame: its gate, and the length of its body.
 const FRAME_HEAD: u64 = 5;
@@ -40,9 +44,9 @@ fn make_file<D: Disk>(disk: &mut D, name: &LogName, id: FileId, size: u32) -> Re
     requires most { size ≤ 65536 }
     requires fresh { IsTrue D.tells → (D.view disk.old).reading (place name.now id) ≡ None }
     ensures made { OnOk result (IsTrue D.tells → IsMade (D.view disk.new) name.now id size) }
-    ensures any_moment { IsTrue D.tells → EachHas (D.view disk.old) name.now [] → LeavesOnly (D.view disk.old) (D.view disk.new) (HasNoneOr name.now (new_tail id size)) }
-    ensures held { OnOk result (IsTrue D.tells → EachHas (D.view disk.old) name.now [] → EachHas (D.view disk.new) name.now (new_tail id size ∷ [])) }
-    ensures unlisted { IsTrue D.tells → EachHas (D.view disk.old) name.now [] → (D.view disk.new).reading (place name.now id) ≡ None → EachHas (D.view disk.new) name.now [] }
+    ensures any_moment { IsTrue D.tells → (parts : List Part) → EachHas (D.view disk.old) name.now parts → LeavesOnly (D.view disk.old) (D.view disk.new) (HasOrNew name.now parts (new_tail id size)) }
+    ensures held { OnOk result (IsTrue D.tells → (parts : List Part) → EachHas (D.view disk.old) name.now parts → EachHas (D.view disk.new) name.now (parts ++ new_tail id size ∷ [])) }
+    ensures unlisted { IsTrue D.tells → (parts : List Part) → EachHas (D.view disk.old) name.now parts → (D.view disk.new).reading (place name.now id) ≡ None → EachHas (D.view disk.new) name.now parts }
     ensures others { IsTrue D.tells → KeepsOthers (D.view disk.old) (D.view disk.new) (place name.now id) }
     ensures cause { HasCause (D.faults disk.old) (D.faults disk.new) result }
 {
@@ -53,48 +57,41 @@ fn make_file<D: Disk>(disk: &mut D, name: &LogName, id: FileId, size: u32) -> Re
 /// A file with no entries, as a tail.
 fn empty_tail(id: FileId, size: u32) -> Tail
     requires id { IsFileId id }
-    requires base { id.base ≡ 1 }
+    requires least { 2 ≤ size }
+    requires most { size ≤ 65536 }
     ensures { IsNewTail result id size }
 {
     Tail {
         id,
-        last: 0,
+        last: id.base - 1,
         gate: 64,
         size,
     }
 }
 
-/// Appends a frame to the tail, and answers the tail with its entry. A crash at any moment leaves the frame whole or absent.
+/// Appends a frame to the tail, and answers the place of its next gate. A crash at any moment leaves the frame whole or absent.
 fn push_frame<D: Disk>(
     disk: &mut D,
     name: &LogName,
     tail: Tail,
     frame: &[u8],
-) -> Result<Tail, DiskFault>
-    requires fits { IsTrue D.tells → TailFits (D.view disk.old) name.now tail }
-    requires room { tail.last < last_limit }
+) -> Result<u64, DiskFault>
+    requires fits { IsTrue D.tells → (offsets : Offset_list) × TailFits (D.view disk.old) name.now tail offsets }
+    requires room { tail.last < index_limit }
     requires frame { (entry : Entry) × IsFrameFor tail.last frame.now entry }
-    ensures tail { IfOk result (λ next. (next.id ≡ tail.id) × (next.last ≡ tail.last + 1) × (next.size ≡ tail.size) × (tail.gate + 6 ≤ next.gate)) }
-    ensures grown { IfOk result (λ next. IsTrue D.tells → (part : Part) (entry : Entry) → folder name.now (D.view disk.old).reading tail.id ≡ Whole part → IsFrameFor tail.last frame.now entry
-        → IsTailAt (D.view disk.new) name.now next (with_entry part entry)) }
-    ensures any_moment { IsTrue D.tells → (part : Part) (entry : Entry) → folder name.now (D.view disk.old).reading tail.id ≡ Whole part → IsFrameFor tail.last frame.now entry
-        → EachHas (D.view disk.old) name.now (part ∷ []) → LeavesOnly (D.view disk.old) (D.view disk.new) (HasOrGains name.now part ((part.last + 1, entry) ∷ []) (frame_size (part.last + 1) entry)) }
+    ensures longer { IfOk result (λ gate. (tail.gate + 6 ≤ gate) × (gate ≤ tail.gate + 8388613)) }
+    ensures grown { IfOk result (λ gate. IsTrue D.tells → (part : Part) (entry : Entry) → folder name.now (D.view disk.old).reading tail.id ≡ Whole part → IsFrameFor tail.last frame.now entry
+        → IsFileAt (D.view disk.new) name.now tail.id (tail.last + 1) gate tail.size (with_entry part entry)) }
+    ensures any_moment { IsTrue D.tells → (front : List Part) (part : Part) (entry : Entry) → folder name.now (D.view disk.old).reading tail.id ≡ Whole part → IsFrameFor tail.last frame.now entry
+        → AreApart front tail.id → EachHas (D.view disk.old) name.now (front ++ part ∷ []) → LeavesOnly (D.view disk.old) (D.view disk.new) (HasOrGrows name.now front part ((part.last + 1, entry) ∷ []) (frame_size (part.last + 1) entry)) }
     ensures placed { OnOk result (IsTrue D.tells → (part : Part) (entry : Entry) (offsets : Offset_list) → folder name.now (D.view disk.old).reading tail.id ≡ Whole part → IsFrameFor tail.last frame.now entry
-        → ArePlaced (D.view disk.old) name.now tail.id part offsets → ArePlaced (D.view disk.new) name.now tail.id (with_entry part entry) (offsets ++ (tail.last, tail.gate + 5) ∷ [])) }
-    ensures held { OnOk result (IsTrue D.tells → (part : Part) (entry : Entry) → folder name.now (D.view disk.old).reading tail.id ≡ Whole part → IsFrameFor tail.last frame.now entry
-        → EachHas (D.view disk.old) name.now (part ∷ []) → EachHas (D.view disk.new) name.now (with_entry part entry ∷ [])) }
+        → ArePlaced (D.view disk.old) name.now tail.id part offsets → ArePlaced (D.view disk.new) name.now tail.id (with_entry part entry) (offsets ++ (tail.last + 1 - tail.id.base, tail.gate + 5) ∷ [])) }
+    ensures held { OnOk result (IsTrue D.tells → (front : List Part) (part : Part) (entry : Entry) → folder name.now (D.view disk.old).reading tail.id ≡ Whole part → IsFrameFor tail.last frame.now entry
+        → AreApart front tail.id → EachHas (D.view disk.old) name.now (front ++ part ∷ []) → EachHas (D.view disk.new) name.now (front ++ with_entry part entry ∷ [])) }
     ensures others { IsTrue D.tells → KeepsOthers (D.view disk.old) (D.view disk.new) (place name.now tail.id) }
     ensures cause { HasCause (D.faults disk.old) (D.faults disk.new) result }
 {
-    match append_frame(disk, name, tail.id, tail.gate, frame) {
-        Ok(gate) => Ok(Tail {
-            id: tail.id,
-            last: tail.last + 1,
-            gate,
-            size: tail.size,
-        }),
-        Err(fault) => Err(fault),
-    }
+    append_frame(disk, name, tail.id, tail.gate, frame)
 }
 
 /// Notes where an entry stands, in room that was prepared.
@@ -116,7 +113,10 @@ impl Parts {
     {
         match self.tail {
             Some(tail) => tail.last,
-            None => 0,
+            None => match self.sealed.last() {
+                Some(one) => one.part.last,
+                None => 0,
+            },
         }
     }
 
@@ -139,26 +139,48 @@ impl Parts {
         }
     }
 
-    /// Makes room for noting where so many entries stand. After an error all is as before.
+    /// Makes room for noting where so many entries stand, and for a file that gets full. After an error all is as before, but for
+    /// room.
     pub fn prepare_append(&mut self, count: u32) -> Result<(), NoMemory>
-        ensures ok { OnOk result (count ≤ self.new.offsets.spare) }
-        ensures same { without_room self.new ≡ without_room self.old }
-        ensures err { OnErr result (self.new ≡ self.old) }
+        ensures ok { OnOk result (IsPrepared count self.new) }
+        ensures same { IsAsBefore self.old self.new }
     {
+        match self.sealed.reserve(1) {
+            Ok(()) => {}
+            Err(_) => return Err(NoMemory),
+        }
         match self.offsets.reserve(count as usize) {
             Ok(()) => Ok(()),
             Err(_) => Err(NoMemory),
         }
     }
 
-    /// Makes the log's first file, with no entries, and takes it as its tail.
+    /// A new file with no entries, which begins behind the last one, is the tail.
+    fn take(&mut self, tail: Tail)
+        requires none { self.old.tail ≡ None }
+        requires generation { self.old.greatest < index_limit }
+        requires empty { tail.last + 1 ≡ tail.id.base }
+        requires behind { tail.last ≡ last_of self.old }
+        ensures tail { self.new.tail ≡ Some tail }
+        ensures sealed { self.new.sealed ≡ self.old.sealed }
+        ensures offsets { self.new.offsets ≡ self.old.offsets }
+        ensures greatest { self.new.greatest ≡ self.old.greatest + 1 }
+        ensures name { self.new.name ≡ self.old.name }
+    {
+        self.greatest += 1;
+        self.tail = Some(tail);
+    }
+
+    /// Makes a file with no entries behind the last one, and takes it as the tail.
     fn begin<D: Disk>(&mut self, disk: &mut D, size: u32) -> Result<Tail, DiskFault>
         requires fits { IsTrue D.tells → Fits (D.view disk.old) self.old }
         requires none { self.old.tail ≡ None }
+        requires room { last_of self.old < index_limit }
         requires generation { self.old.greatest < index_limit }
         requires least { 2 ≤ size }
         requires most { size ≤ 65536 }
-        ensures tail { IfOk result (λ tail. (self.new.tail ≡ Some tail) × (tail.last ≡ 0)) }
+        ensures tail { IfOk result (λ tail. (self.new.tail ≡ Some tail) × (tail.last ≡ last_of self.old)) }
+        ensures sealed { self.new.sealed ≡ self.old.sealed }
         ensures offsets { self.new.offsets ≡ self.old.offsets }
         ensures greatest { OnOk result (self.new.greatest ≡ self.old.greatest + 1) }
         ensures name { self.new.name ≡ self.old.name }
@@ -166,68 +188,101 @@ impl Parts {
         ensures cause { HasCause (D.faults disk.old) (D.faults disk.new) result }
     {
         let id = FileId {
-            base: 1,
+            base: self.last() + 1,
             generation: self.greatest + 1,
         };
         match make_file(disk, &self.name, id, size) {
             Ok(()) => {
                 let tail = empty_tail(id, size);
-                self.greatest += 1;
-                self.tail = Some(tail);
+                self.take(tail);
                 Ok(tail)
             }
             Err(fault) => Err(fault),
         }
     }
 
+    /// The tail has an entry more, behind whose frame the next gate stands. A file that has its size is sealed.
+    fn advance(&mut self, alloc: Global, tail: Tail, gate: u64)
+        requires tail { self.old.tail ≡ Some tail }
+        requires room { tail.last < index_limit }
+        requires gate { (tail.gate + 6 ≤ gate) × (gate ≤ tail.gate + 8388613) }
+        requires prepared { IsPrepared 1 self.old }
+        ensures { Advances self.old self.new tail gate }
+    {
+        let count = tail.last + 1 - tail.id.base;
+        note(&mut self.offsets, count, tail.gate + FRAME_HEAD);
+        let last = tail.last + 1;
+        if count + 1 < u64::from(tail.size) {
+            self.tail = Some(Tail {
+                id: tail.id,
+                last,
+                gate,
+                size: tail.size,
+            });
+        } else {
+            let offsets = mem::replace(&mut self.offsets, Offsets::new(alloc));
+            self.sealed.push_reserved(Opened {
+                id: tail.id,
+                part: segment_files::Part {
+                    descriptor: Descriptor::appended(tail.id, tail.size),
+                    last,
+                    gate,
+                    offsets,
+                },
+            });
+            self.tail = None;
+        }
+    }
+
     /// Appends a frame to the tail. No file is made, so the size of a new one is any.
     fn append_to<D: Disk>(
         &mut self,
+        alloc: Global,
         disk: &mut D,
         tail: Tail,
         frame: &[u8],
     ) -> Result<(), DiskFault>
         requires fits { IsTrue D.tells → Fits (D.view disk.old) self.old }
         requires tail { self.old.tail ≡ Some tail }
-        requires room { tail.last < last_limit }
+        requires room { tail.last < index_limit }
         requires frame { (entry : Entry) × IsFrameFor tail.last frame.now entry }
-        requires prepared { 1 ≤ self.old.offsets.spare }
+        requires prepared { IsPrepared 1 self.old }
         ensures { (size : ℕ) → Appends D.tells (D.view disk.old) (D.view disk.new) (D.faults disk.old) (D.faults disk.new)
             self.old self.new frame.now size result }
     {
         match push_frame(disk, &self.name, tail, frame) {
-            Ok(next) => {
-                note(&mut self.offsets, tail.last, tail.gate + FRAME_HEAD);
-                self.tail = Some(next);
+            Ok(gate) => {
+                self.advance(alloc, tail, gate);
                 Ok(())
             }
             Err(fault) => Err(fault),
         }
     }
 
-    /// Appends a frame with the next entry, which has the shut gate behind it as its last byte. Where there is no file yet, it
-    /// makes one of this size first, with the next generation. A crash at any moment leaves the log without the entry or with
-    /// it; from an Ok on it is there. Room for it was made by `prepare_append`.
+    /// Appends a frame with the next entry, which has the shut gate behind it as its last byte. Where no file has room it makes one of
+    /// this size first, with the next generation. A crash at any moment leaves the log without the entry or with it; from an Ok on it
+    /// is there. Room for it was made by `prepare_append`.
     pub fn append<D: Disk>(
         &mut self,
+        alloc: Global,
         disk: &mut D,
         frame: &[u8],
         size: u32,
     ) -> Result<(), DiskFault>
         requires fits { IsTrue D.tells → Fits (D.view disk.old) self.old }
-        requires room { last_of self.old < last_limit }
+        requires room { last_of self.old < index_limit }
         requires generation { self.old.tail ≡ None → self.old.greatest < index_limit }
         requires least { 2 ≤ size }
         requires most { size ≤ 65536 }
         requires frame { (entry : Entry) × IsFrameFor (last_of self.old) frame.now entry }
-        requires prepared { 1 ≤ self.old.offsets.spare }
+        requires prepared { IsPrepared 1 self.old }
         ensures { Appends D.tells (D.view disk.old) (D.view disk.new) (D.faults disk.old) (D.faults disk.new)
             self.old self.new frame.now size result }
     {
         match self.tail {
-            Some(tail) => self.append_to(disk, tail, frame),
+            Some(tail) => self.append_to(alloc, disk, tail, frame),
             None => match self.begin(disk, size) {
-                Ok(tail) => self.append_to(disk, tail, frame),
+                Ok(tail) => self.append_to(alloc, disk, tail, frame),
                 Err(fault) => Err(fault),
             },
         }

@@ -1,11 +1,13 @@
 // Which of the files with an open gate are the parts of a log.
-ghost use Rattle.std.specs.Prelude.{◌≡◌, ◌↔◌, ◌+◌, ℕ, List, [], ◌∷◌, ◌++◌, IsTrue, IfOk, OnOk, IsErrOf, IfSome, IfNone};
+ghost use Rattle.std.specs.Prelude.{◌≡◌, ◌↔◌, ◌+◌, ℕ, true, List, [], ◌∷◌, ◌++◌, All, IsTrue, IfOk, OnOk, IsErrOf, IfSome, IfNone};
+ghost use Rattle.disk_model.specs.Image.{IsFileId};
 ghost use Rattle.segment_files.specs.Parse.{base_place};
-ghost use Rattle.segment_files.specs.Folder.{Folder, Tiles};
 ghost use Rattle.segment_set.specs.declared.opened.Opened.{Opened};
-ghost use Rattle.segment_set.specs.Choice.{IsChoice, IsUntiled, LiesIn};
+ghost use Rattle.segment_files.specs.Folder.{Folder, IsChoice, IsUntiled, LiesIn, Tiles};
+ghost use Rattle.segment_set.specs.Fits.{parts_of};
+ghost use Rattle.segment_set.specs.Joined.{are_tiled};
 ghost use Rattle.segment_set.specs.Load.{id_from};
-ghost use Rattle.segment_set.specs.Sifting.{AreOpen, AreStacked, Ends, IsFirstApart, LastLiesIn, LiesInLast, Rise, Sifted, opened_span, parts_of};
+ghost use Rattle.segment_set.specs.Sifting.{AreOpen, AreStacked, Ends, IsFirstApart, LastLiesIn, LiesInLast, Rise, Sifted, opened_span};
 
 use crate::opened::Opened;
 use crate::opening::{BASE_PLACE, OpenError, damaged};
@@ -20,6 +22,7 @@ pub struct Choice {
     pub kept: Vec<Opened>,
     /// The ids of the others.
     pub covered: Vec<FileId>,
+    ghost are_ids: { All IsFileId covered.items },
 }
 
 /// Whether a file lies in another one, which takes its place.
@@ -64,6 +67,7 @@ impl Choice {
     }
 
     fn cover(&mut self, id: FileId) -> Result<(), NoMemory>
+        requires { IsFileId id }
         ensures covered { OnOk result (self.new.covered.items ≡ self.old.covered.items ++ id ∷ []) }
         ensures kept { self.new.kept ≡ self.old.kept }
     {
@@ -113,15 +117,19 @@ impl Choice {
     }
 
     /// The first kept file that doesn't begin where the one before it ends, or that is the first and doesn't begin with the first entry.
+    /// Behind an empty file none may stand: no disk tells of such, where it tells what it holds.
     fn first_apart(&self) -> Option<FileId>
         ensures none { IfNone result ((last : ℕ) × Ends 1 self.now.kept.items (last + 1)) }
+        ensures tiled { IfNone result (are_tiled 1 self.now.kept.items ≡ true) }
         ensures some { IfSome result (λ id. IsFirstApart self.now.kept.items id) }
     {
         let mut next: Index = 1;
+        let mut full = true;
         for one in &self.kept {
-            if one.id.base != next {
+            if !full || one.id.base != next {
                 return Some(one.id);
             }
+            full = next <= one.part.last;
             next = one.part.last + 1;
         }
         None
@@ -130,8 +138,7 @@ impl Choice {
 
 /// Goes through the files with an open gate, and keeps those that may be parts.
 fn sift(alloc: Global, files: Vec<Opened>) -> Result<Choice, NoMemory>
-    requires { Rise files.items }
-    ensures { IfOk result (λ choice. Sifted files.items choice.kept.items choice.covered.items choice.kept.items) }
+    ensures { IfOk result (λ choice. Rise files.items → Sifted files.items choice.kept.items choice.covered.items choice.kept.items) }
 {
     let mut choice = Choice {
         kept: Vec::new(alloc),
@@ -150,13 +157,13 @@ fn sift(alloc: Global, files: Vec<Opened>) -> Result<Choice, NoMemory>
 /// one. Where the parts don't stand end to end from the first entry on, the first one that doesn't is damaged at its base. It takes a
 /// time linear in the number of files.
 pub fn choose(alloc: Global, files: Vec<Opened>) -> Result<Choice, OpenError>
-    requires { Rise files.items }
-    // Each file is kept or covered, once.
-    ensures sifted { IfOk result (λ choice. Sifted files.items choice.kept.items choice.covered.items choice.kept.items) }
-    ensures choice { IfOk result (λ choice. (folder : Folder) → AreOpen folder files.items → IsChoice folder (parts_of folder choice.kept.items)) }
-    ensures tile { IfOk result (λ choice. (folder : Folder) → AreOpen folder files.items → (last : ℕ) × Tiles 1 (parts_of folder choice.kept.items) last) }
+    // Where they come so each file is kept or covered, once.
+    ensures sifted { IfOk result (λ choice. Rise files.items → Sifted files.items choice.kept.items choice.covered.items choice.kept.items) }
+    ensures choice { IfOk result (λ choice. Rise files.items → (folder : Folder) → AreOpen folder files.items → IsChoice folder (parts_of folder choice.kept.items)) }
+    ensures tile { IfOk result (λ choice. Rise files.items → (folder : Folder) → AreOpen folder files.items → (last : ℕ) × Tiles 1 (parts_of folder choice.kept.items) last) }
+    ensures tiled { IfOk result (λ choice. are_tiled 1 choice.kept.items ≡ true) }
     ensures untiled { (base generation at : ℕ) → IsErrOf result (OpenError.Damaged base generation at)
-        → (at ≡ base_place) × ((folder : Folder) → AreOpen folder files.items → IsUntiled folder (id_from base generation)) }
+        → (at ≡ base_place) × (Rise files.items → (folder : Folder) → AreOpen folder files.items → IsUntiled folder (id_from base generation)) }
     ensures disk { IsErrOf result OpenError.Disk → ⊥ }
 {
     let choice = match sift(alloc, files) {

@@ -15,7 +15,7 @@ loop-at-init g c = record {
   faults = omega arith;
   some = c.requires.buffer;
   room = subst (λ (l : Offset_list). HasRoom c.args.rule (length l)) (sym c.requires.none) (room_none c.args.rule);
-  put_down = subst (λ (l : Offset_list). IsPutDown c.args.rule c.args.id.base l 64) (sym c.requires.none) (put_none c.args.rule c.args.id.base 64 c.requires.id.base_first c.requires.rule);
+  put_down = subst (λ (l : Offset_list). IsPutDown c.args.rule c.args.id.base l 64) (sym c.requires.none) (put_none c.args.rule c.args.id.base 64 c.requires.id.base_first c.requires.id.base_last c.requires.rule);
   measured = omega (arith, ap length c.requires.none);
   scanned = λ t bytes reads. scanned_none c.args.rule bytes c.args.id.base c.args.offsets.now.items c.requires.none;
 }

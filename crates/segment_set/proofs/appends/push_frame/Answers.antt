@@ -1,14 +1,20 @@
-use Rattle.std.proofs.Common.{List, ap, drop, ◌≡◌, refl, ◌+◌, ℕ, sym, subst, ◌∙◌, arith}
+use Rattle.std.proofs.Common.{List, ap, drop, ◌≡◌, ◌+◌, ℕ, Result, Ok, Err, IfOk, OnOk, sym, subst, ◌∙◌, arith}
+use Rattle.std.proofs.lemmas.Result.{IfOk-weaker, on_ok_weaker}
 use Rattle.disk_model.specs.Image.{place}
-use Rattle.disk_model.specs.View.{LeavesAt}
-use Rattle.segment_files.specs.Files.{IsAtGate, OrFrame}
-use Rattle.segment_set.specs.Fits.{frame_size}
+use Rattle.disk_model.specs.View.{LeavesAt, Reads}
+use Rattle.segment_files.specs.Files.{Becomes, IsAtGate, OrFrame, appended, then_shut}
+use Rattle.segment_set.specs.Growth.{frame_size}
 use Rattle.segment_set.proofs.Frames.{behind, behind_is, frame_least, frame_long, frame_short}
-use Rattle.segment_set.proofs.Pushing.{push_left, push_held, push_reads, push_gate, push_last, push_size, push_end, push_placed}
+use Rattle.segment_set.proofs.Pushing.{push_left, push_held, push_reads, push_gate, push_last, push_plain, push_size, push_end, push_placed}
 use Rattle.segment_set.proofs.appends.push_frame.Goals as goal
 
+-- what holds of the answer and what holds then
+both : {T E X : Type 0} (r : Result T E) (P Q : T → Type 0) → ((x : T) → P x → X → Q x) → IfOk r P → OnOk r X → IfOk r Q
+both (Ok x) P Q f p q = f x p q
+both (Err y) P Q f p q = tt
+
 pub append_frame-requires-clause-at_gate : goal.append_frame-requires-clause-at_gate
-append_frame-requires-clause-at_gate g c = λ t. (c.requires.fits t).at.at_gate
+append_frame-requires-clause-at_gate g c = λ t. (c.requires.fits t).1.at.at_gate
 
 pub append_frame-requires-clause-open : goal.append_frame-requires-clause-open
 append_frame-requires-clause-open g c =
@@ -18,54 +24,48 @@ append_frame-requires-clause-open g c =
 pub append_frame-requires-clause-room : goal.append_frame-requires-clause-room
 append_frame-requires-clause-room g c =
     let short = frame_short c.args.tail.last c.args.frame.now c.requires.frame.0 c.requires.room c.requires.frame.1 in
-    omega (arith, short, c.args.tail.gate_in_range, c.args.tail.last_in_range)
+    omega (arith, short, c.args.tail.gate_in_range, c.args.tail.has_room, c.args.tail.size_last)
 
-pub invariant_of-result-clause-gate_in_range : goal.invariant_of-result-clause-gate_in_range
-invariant_of-result-clause-gate_in_range g c =
-    let short = frame_short c.args.tail.last c.args.frame.now c.requires.frame.0 c.requires.room c.requires.frame.1 in
-    omega (arith, short, c.args.tail.gate_in_range, c.in-Ok.ensures.gate)
-
-pub returns-in-Ok-clause-grown : goal.returns-in-Ok-clause-grown
-returns-in-Ok-clause-grown g c = λ t part entry whole f.
-    let v = g.D.Disk.view c.args.disk.now in
-    let e = g.D.Disk.view c.append_frame.new.disk in
-    let name = c.args.name.now in
+pub returns-clause-grown : goal.returns-clause-grown
+returns-clause-grown g c =
+    both c.append_frame.result _ _
+    (λ gate is done t part entry whole f.
     let tail = c.args.tail in
-    let bytes = c.args.frame.now in
-    let sound = g.met.D.Disk.sound c.args.disk.now t in
-    let fits = c.requires.fits t in
-    let next : c.in-Ok.gate ≡ tail.gate + frame_size (tail.last + 1) entry = omega (arith, c.in-Ok.ensures.gate, frame_long tail.last bytes entry f) in
+    let next : gate ≡ tail.gate + frame_size (tail.last + 1) entry = omega (arith, is, frame_long tail.last c.args.frame.now entry f) in
+    let left : (b : List ℕ) → Reads (g.D.Disk.view c.args.disk.now) (place c.args.name.now tail.id) b → Becomes (g.D.Disk.view c.args.disk.now) (g.D.Disk.view c.append_frame.new.disk) (place c.args.name.now tail.id) (appended b tail.gate (then_shut (behind tail.last entry))) = λ b reads. done t b (behind tail.last entry) (behind_is tail.last c.args.frame.now entry f) reads in
     record {
-      whole = push_reads v e name tail part bytes entry sound fits whole c.requires.room f (λ b reads. c.in-Ok.ensures.appended t b (behind tail.last entry) (behind_is tail.last bytes entry f) reads);
-      last = push_last v e name tail part bytes entry sound fits whole c.requires.room f;
-      gate = push_end v e name tail part bytes entry sound fits whole c.requires.room f ∙ sym next;
-      size = push_size v e name tail part bytes entry sound fits whole c.requires.room f;
-      at_gate = subst (λ (k : ℕ). IsAtGate e (place name tail.id) k) (sym next) (push_gate v e name tail part bytes entry sound fits whole c.requires.room f (λ b reads. c.in-Ok.ensures.appended t b (behind tail.last entry) (behind_is tail.last bytes entry f) reads));
-    }
+      whole = push_reads (g.D.Disk.view c.args.disk.now) (g.D.Disk.view c.append_frame.new.disk) c.args.name.now c.args.tail part c.args.frame.now entry (g.met.D.Disk.sound c.args.disk.now t) (c.requires.fits t) whole c.requires.room f left;
+      plain = push_plain (g.D.Disk.view c.args.disk.now) (g.D.Disk.view c.append_frame.new.disk) c.args.name.now c.args.tail part c.args.frame.now entry (g.met.D.Disk.sound c.args.disk.now t) (c.requires.fits t) whole c.requires.room f;
+      last_is = push_last (g.D.Disk.view c.args.disk.now) (g.D.Disk.view c.append_frame.new.disk) c.args.name.now c.args.tail part c.args.frame.now entry (g.met.D.Disk.sound c.args.disk.now t) (c.requires.fits t) whole c.requires.room f;
+      gate_is = push_end (g.D.Disk.view c.args.disk.now) (g.D.Disk.view c.append_frame.new.disk) c.args.name.now c.args.tail part c.args.frame.now entry (g.met.D.Disk.sound c.args.disk.now t) (c.requires.fits t) whole c.requires.room f ∙ sym next;
+      size_is = push_size (g.D.Disk.view c.args.disk.now) (g.D.Disk.view c.append_frame.new.disk) c.args.name.now c.args.tail part c.args.frame.now entry (g.met.D.Disk.sound c.args.disk.now t) (c.requires.fits t) whole c.requires.room f;
+      at_gate = subst (λ (k : ℕ). IsAtGate (g.D.Disk.view c.append_frame.new.disk) (place c.args.name.now tail.id) k) (sym next) (push_gate (g.D.Disk.view c.args.disk.now) (g.D.Disk.view c.append_frame.new.disk) c.args.name.now c.args.tail part c.args.frame.now entry (g.met.D.Disk.sound c.args.disk.now t) (c.requires.fits t) whole c.requires.room f left);
+    })
+    c.append_frame.ensures.gate c.append_frame.ensures.appended
 
-pub returns-in-Ok-clause-any_moment : goal.returns-in-Ok-clause-any_moment
-returns-in-Ok-clause-any_moment g c = λ t part entry whole f each.
-    push_left (g.D.Disk.view c.args.disk.now) (g.D.Disk.view c.append_frame.new.disk) c.args.name.now c.args.tail part c.args.frame.now entry (g.met.D.Disk.sound c.args.disk.now t) (c.requires.fits t) whole c.requires.room f each
+pub returns-clause-any_moment : goal.returns-clause-any_moment
+returns-clause-any_moment g c = λ t front part entry whole f apart each.
+    push_left (g.D.Disk.view c.args.disk.now) (g.D.Disk.view c.append_frame.new.disk) c.args.name.now c.args.tail part c.args.frame.now entry (g.met.D.Disk.sound c.args.disk.now t) (c.requires.fits t) whole c.requires.room f front apart each
     (subst (λ (l : List ℕ). LeavesAt (g.D.Disk.view c.args.disk.now) (g.D.Disk.view c.append_frame.new.disk) (OrFrame (g.D.Disk.view c.args.disk.now) (place c.args.name.now c.args.tail.id) c.args.tail.gate l))
     (ap (drop 1) (behind_is c.args.tail.last c.args.frame.now entry f)) (c.append_frame.ensures.writes.any_moment t))
 
-pub returns-in-Ok-clause-held : goal.returns-in-Ok-clause-held
-returns-in-Ok-clause-held g c = λ t part entry whole f each.
-    push_held (g.D.Disk.view c.args.disk.now) (g.D.Disk.view c.append_frame.new.disk) c.args.name.now c.args.tail part c.args.frame.now entry (g.met.D.Disk.sound c.args.disk.now t) (c.requires.fits t) whole c.requires.room f each
-    (λ b reads. c.in-Ok.ensures.appended t b (behind c.args.tail.last entry) (behind_is c.args.tail.last c.args.frame.now entry f) reads)
+pub returns-clause-held : goal.returns-clause-held
+returns-clause-held g c =
+    on_ok_weaker c.append_frame.result
+    (λ done t front part entry whole f apart each. push_held (g.D.Disk.view c.args.disk.now) (g.D.Disk.view c.append_frame.new.disk) c.args.name.now c.args.tail part c.args.frame.now entry (g.met.D.Disk.sound c.args.disk.now t) (c.requires.fits t) whole c.requires.room f front apart each
+    (λ b reads. done t b (behind c.args.tail.last entry) (behind_is c.args.tail.last c.args.frame.now entry f) reads))
+    c.append_frame.ensures.appended
 
-pub returns-in-Err-clause-any_moment : goal.returns-in-Err-clause-any_moment
-returns-in-Err-clause-any_moment g c = λ t part entry whole f each.
-    push_left (g.D.Disk.view c.args.disk.now) (g.D.Disk.view c.append_frame.new.disk) c.args.name.now c.args.tail part c.args.frame.now entry (g.met.D.Disk.sound c.args.disk.now t) (c.requires.fits t) whole c.requires.room f each
-    (subst (λ (l : List ℕ). LeavesAt (g.D.Disk.view c.args.disk.now) (g.D.Disk.view c.append_frame.new.disk) (OrFrame (g.D.Disk.view c.args.disk.now) (place c.args.name.now c.args.tail.id) c.args.tail.gate l))
-    (ap (drop 1) (behind_is c.args.tail.last c.args.frame.now entry f)) (c.append_frame.ensures.writes.any_moment t))
+pub returns-clause-longer : goal.returns-clause-longer
+returns-clause-longer g c =
+    let f = c.requires.frame.1 in
+    let least = frame_least c.args.tail.last c.args.frame.now c.requires.frame.0 c.requires.room f in
+    let short = frame_short c.args.tail.last c.args.frame.now c.requires.frame.0 c.requires.room f in
+    IfOk-weaker c.append_frame.result _ _ (λ gate is. (omega (arith, least, is), omega (arith, short, is))) c.append_frame.ensures.gate
 
-pub returns-in-Ok-clause-tail : goal.returns-in-Ok-clause-tail
-returns-in-Ok-clause-tail g c =
-    let least = frame_least c.args.tail.last c.args.frame.now c.requires.frame.0 c.requires.room c.requires.frame.1 in
-    (refl, refl, refl, omega (arith, least, c.in-Ok.ensures.gate))
-
-pub returns-in-Ok-clause-placed : goal.returns-in-Ok-clause-placed
-returns-in-Ok-clause-placed g c = λ t part entry offsets whole f placed.
-    push_placed (g.D.Disk.view c.args.disk.now) (g.D.Disk.view c.append_frame.new.disk) c.args.name.now c.args.tail part c.args.frame.now entry (g.met.D.Disk.sound c.args.disk.now t) (c.requires.fits t) whole c.requires.room f
-    (λ b reads. c.in-Ok.ensures.appended t b (behind c.args.tail.last entry) (behind_is c.args.tail.last c.args.frame.now entry f) reads) offsets placed
+pub returns-clause-placed : goal.returns-clause-placed
+returns-clause-placed g c =
+    on_ok_weaker c.append_frame.result
+    (λ done t part entry offsets whole f placed. push_placed (g.D.Disk.view c.args.disk.now) (g.D.Disk.view c.append_frame.new.disk) c.args.name.now c.args.tail part c.args.frame.now entry (g.met.D.Disk.sound c.args.disk.now t) (c.requires.fits t) whole c.requires.room f
+    (λ b reads. done t b (behind c.args.tail.last entry) (behind_is c.args.tail.last c.args.frame.now entry f) reads) offsets placed)
+    c.append_frame.ensures.appended

@@ -5,7 +5,7 @@ use Rattle.segment_files.specs.declared.descriptor.Field.{Field}
 use Rattle.segment_files.specs.Numbers.{Four, Eight, number_at}
 use Rattle.segment_files.specs.Parse.{descriptor_fields, fields_by, first_wrong, is_rewritten, last_place, number_or_zero}
 use Rattle.segment_files.specs.Contents.{HasRule, appended_descriptor, descriptor_in, rewritten_descriptor}
-use Rattle.segment_files.proofs.Descriptors.{fields_are, last_right, whole_head}
+use Rattle.segment_files.proofs.Descriptors.{cut_right, fields_are, last_right, size_right, whole_head}
 use Rattle.segment_files.proofs.descriptor.Descriptor.read.Goals as goal
 
 -- what the first wrong field is
@@ -34,7 +34,7 @@ returns-then-rewritten-clause-fields c = c.rewritten.ensures ∙ sym (described 
 pub returns-then-rewritten-clause-rule : goal.returns-then-rewritten-clause-rule
 returns-then-rewritten-clause-rule c =
     let right = none c.args.id c.args.head.now true c.number_or_zero-last.result c.fields_of.result c.first_wrong_of.result (c.fields_of.ensures ∙ ap (λ (t : Bool). fields_by c.args.id t c.number_or_zero-last.result) c.if-rewritten.true) c.first_wrong_of.ensures c.in_default.is in
-    subst (λ (d : Descriptor). HasRule c.args.id (Some d)) (sym c.rewritten.ensures) (refl, last_right c.args.id c.number_or_zero-last.result c.args.head.now right)
+    subst (λ (d : Descriptor). HasRule c.args.id (Some d)) (sym c.rewritten.ensures) (refl, last_right c.args.id c.number_or_zero-last.result c.args.head.now right, (λ plain. absurd (cc)), omega arith, cut_right c.args.id c.number_or_zero-last.result c.args.head.now right)
 
 pub returns-else-rewritten-clause-right : goal.returns-else-rewritten-clause-right
 returns-else-rewritten-clause-right c =
@@ -45,7 +45,10 @@ returns-else-rewritten-clause-fields c =
     c.appended.ensures ∙ ap (appended_descriptor c.args.id) c.u32_at.ensures ∙ sym (described c.args.id c.args.head.now false (sym c.is_rewritten-rewritten.ensures ∙ c.if-rewritten.false))
 
 pub returns-else-rewritten-clause-rule : goal.returns-else-rewritten-clause-rule
-returns-else-rewritten-clause-rule c = subst (λ (d : Descriptor). HasRule c.args.id (Some d)) (sym c.appended.ensures) (refl, tt)
+returns-else-rewritten-clause-rule c =
+    let right = none c.args.id c.args.head.now false c.number_or_zero-last.result c.fields_of.result c.first_wrong_of.result (c.fields_of.ensures ∙ ap (λ (t : Bool). fields_by c.args.id t c.number_or_zero-last.result) c.if-rewritten.false) c.first_wrong_of.ensures c.in_default.is in
+    let size = size_right c.args.id c.number_or_zero-last.result c.args.head.now right in
+    subst (λ (d : Descriptor). HasRule c.args.id (Some d)) (sym c.appended.ensures) (refl, tt, (λ plain. omega (arith, c.u32_at.ensures, size.0)), omega (arith, c.u32_at.ensures, size.1), omega arith)
 
 pub rewritten-requires : goal.rewritten-requires
 rewritten-requires c = whole_head c.args.id c.is_rewritten-rewritten.result c.number_or_zero-last.result c.args.head.now (none c.args.id c.args.head.now c.is_rewritten-rewritten.result c.number_or_zero-last.result c.fields_of.result c.first_wrong_of.result c.fields_of.ensures c.first_wrong_of.ensures c.in_default.is)

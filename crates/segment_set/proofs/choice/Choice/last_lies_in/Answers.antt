@@ -1,5 +1,5 @@
 use Rattle.segment_set.specs.declared.opened.Opened.{Opened}
-use Rattle.segment_set.specs.Choice.{LiesIn}
+use Rattle.segment_files.specs.Folder.{LiesIn}
 use Rattle.segment_set.specs.Sifting.{opened_span}
 use Rattle.segment_set.proofs.Lying.{last_is, some_last}
 use Rattle.segment_set.proofs.choice.Choice.last_lies_in.Goals as goal

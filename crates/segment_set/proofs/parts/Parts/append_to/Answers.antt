@@ -1,63 +1,72 @@
-use Rattle.std.proofs.Common.{◌≡◌, ◌+◌, [], ◌∷◌, ◌++◌, ℕ, Option, Some, length, sym, ap, subst, ◌∙◌, arith, rules}
-use Rattle.disk_model.specs.declared.file_id.FileId.{FileId}
-use Rattle.segment_files.specs.Contents.{AreBelow, Offset_list}
+use Rattle.std.proofs.Common.{◌≡◌, ◌+◌, ◌++◌, ◌∷◌, [], ℕ, Bool, List, Option, Some, is_none, ⊎_elim, sym, ap, subst, ◌∙◌, rules, Contains}
+use Rattle.host_types.specs.declared.entry.Entry.{Entry}
+use Rattle.disk_model.specs.View.{View}
+use Rattle.segment_files.specs.Parse.{Part}
+use Rattle.segment_set.specs.declared.opened.Opened.{Opened}
+use Rattle.segment_set.specs.declared.parts.Parts.{Parts}
 use Rattle.segment_set.specs.declared.tail.Tail.{Tail}
-use Rattle.segment_set.specs.Tails.{tail_gate, tail_last}
-use Rattle.segment_set.proofs.Noting.{noted_may, offsets_at}
-use Rattle.segment_set.proofs.Advancing.{tail_fits, at_last, greatest_stays, frame_at, advances_parts, advances_fits, held_at, advances_held, advances_left, advances_empty}
-use Rattle.segment_set.specs.Fits.{ArePlaced, HasOffsets, with_entry}
-use Rattle.segment_set.proofs.Gaining.{keeps_names}
+use Rattle.segment_set.specs.Advance.{Advances}
+use Rattle.segment_set.specs.Fits.{Fits, last_of}
+use Rattle.segment_set.specs.Growth.{IsFrameFor, frame_size, gained, greatest_after, with_entry}
+use Rattle.segment_set.specs.Joined.{last_index_of}
+use Rattle.segment_set.proofs.Advancing.{advanced_last, alone_now, fits_now, front_apart, held_at, held_now, keeps_names, left_pushing, parts_now, still_listed}
+use Rattle.segment_set.proofs.Images.{whole_plain}
+use Rattle.segment_set.proofs.Joining.{tail_apart}
+use Rattle.segment_set.proofs.Known.{sealed_parts, tail_fits, tail_has_room, tail_id, with_tail}
+use Rattle.segment_set.proofs.PartLists.{gained_with_room}
 use Rattle.segment_set.proofs.parts.Parts.append_to.Goals as goal
 
 pub push_frame-requires-clause-fits : goal.push_frame-requires-clause-fits
-push_frame-requires-clause-fits g c = λ t. tail_fits (g.D.Disk.view c.args.disk.now) c.args.self.now.name c.args.self.now.tail c.args.self.now.greatest c.args.tail c.requires.tail (c.requires.fits t).files
+push_frame-requires-clause-fits g c = λ t. (c.args.self.now.offsets.items, tail_fits (g.D.Disk.view c.args.disk.now) c.args.self.now (c.requires.fits t) c.args.tail c.requires.tail)
 
--- what is remembered of the tail's offsets
-count_is : (os : Offset_list) (old : Option Tail) (tail : Tail) → old ≡ Some tail → length os ≡ tail_last old → length os ≡ tail.last
-count_is os old tail is count = count ∙ ap tail_last is
+-- the next frame is that behind the tail
+at_tail : (old : Parts) (tail : Tail) → old.tail ≡ Some tail → last_of old ≡ tail.last
+at_tail old tail some = ap (λ (o : Option Tail). last_index_of o old.sealed.items) some
 
-below_is : (os : Offset_list) (old : Option Tail) (tail : Tail) → old ≡ Some tail → AreBelow 1 (tail_last old) os (tail_gate old) → AreBelow 1 tail.last os tail.gate
-below_is os old tail is below = subst (λ (o : Option Tail). AreBelow 1 (tail_last o) os (tail_gate o)) is below
+frame_at : (old : Parts) (tail : Tail) → old.tail ≡ Some tail → (frame : List ℕ) (entry : Entry) → IsFrameFor (last_of old) frame entry → IsFrameFor tail.last frame entry
+frame_at old tail some frame entry f = subst (λ (k : ℕ). IsFrameFor k frame entry) (at_tail old tail some) f
 
-pub note-requires-clause-rises : goal.note-requires-clause-rises
-note-requires-clause-rises g c =
-    let os = c.args.self.now.offsets.items in
-    noted_may os c.args.tail.last c.args.tail.gate (c.args.tail.gate + 5) (count_is os c.args.self.now.tail c.args.tail c.requires.tail c.args.self.now.counted) (below_is os c.args.self.now.tail c.args.tail c.requires.tail c.args.self.now.below) (omega arith)
+same_greatest : (old : Parts) (tail : Tail) → old.tail ≡ Some tail → old.greatest ≡ greatest_after (is_none old.tail) old.greatest
+same_greatest old tail some = sym (ap (λ (o : Option Tail). greatest_after (is_none o) old.greatest) some)
 
 pub returns-in-Ok : goal.returns-in-Ok
 returns-in-Ok g c = λ size.
     let v = g.D.Disk.view c.args.disk.now in
     let w = g.D.Disk.view c.push_frame.new.disk in
-    let name = c.args.self.now.name in
-    let old = c.args.self.now.tail in
-    let greatest = c.args.self.now.greatest in
+    let old = c.args.self.now in
+    let new = c.advance.new.self in
     let tail = c.args.tail in
     let some = c.requires.tail in
-    let next = c.in-Ok.next in
+    let gate = c.in-Ok.gate in
+    let a = c.advance.ensures in
     let entry = c.requires.frame.0 in
+    let apart = tail_apart old tail some in
     record {
-      last = c.in-Ok.ensures.tail.1 ∙ ap (λ (k : ℕ). k + 1) (sym (at_last v name old greatest tail some));
-      greatest = greatest_stays v name old greatest tail some;
-      name = search rules;
+      last = advanced_last old new tail gate a ∙ ap (λ (k : ℕ). k + 1) (sym (at_tail old tail some));
+      greatest = a.greatest ∙ same_greatest old tail some;
+      name = a.name;
       told = λ t.
-          let files = (c.requires.fits t).files in
-          let fits = tail_fits v name old greatest tail some files in
-          let at = c.in-Ok.ensures.grown t fits.part entry fits.at.whole c.requires.frame.1 in
-          let noted = subst (λ (o : Option Tail). HasOffsets v name o c.args.self.now.offsets.items) some (c.requires.fits t).offsets in
-          let placed = c.in-Ok.ensures.placed t fits.part entry c.args.self.now.offsets.items fits.at.whole c.requires.frame.1 (noted fits.part fits.at.whole) in
+          let fits = c.requires.fits t in
+          let tf = tail_fits v old fits tail some in
+          let at = c.in-Ok.ensures.grown t tf.part entry tf.at.whole c.requires.frame.1 in
+          let placed = c.in-Ok.ensures.placed t tf.part entry old.offsets.items tf.at.whole c.requires.frame.1 tf.placed in
+          let keeps = c.push_frame.ensures.others t in
+          let plain = whole_plain old.name v.reading tail.id tf.part tf.at.whole tf.at.plain in
           record {
-            fits = record {
-              files = advances_fits v name old greatest tail some w next fits.part entry files (c.push_frame.ensures.others t) c.in-Ok.ensures.tail.0 fits.at.whole at;
-              offsets = offsets_at w name next (with_entry fits.part entry) c.note.new.offsets.items at
-                  (subst (λ (l : Offset_list). ArePlaced w name next.id (with_entry fits.part entry) l) (sym c.note.ensures)
-                  (subst (λ (i : FileId). ArePlaced w name i (with_entry fits.part entry) (c.args.self.now.offsets.items ++ (tail.last, tail.gate + 5) ∷ [])) (sym c.in-Ok.ensures.tail.0) placed));
-            };
-            parts = λ one f. advances_parts v name old greatest tail some w next size fits.part one fits.at.whole (c.in-Ok.ensures.grown t fits.part one fits.at.whole (frame_at v name old greatest tail some c.args.frame.now one f));
-            held = λ held. advances_held v name old greatest tail some w next fits.part entry at
-                (c.in-Ok.ensures.held t fits.part entry fits.at.whole c.requires.frame.1 (held_at v name old greatest tail some fits.part fits.at.whole held));
-            any_moment = λ held one f. advances_left v name old greatest tail some w c.args.frame.now one files (c.push_frame.ensures.any_moment t) held f;
-            empty = advances_empty v name old greatest tail some w c.args.frame.now files (c.push_frame.ensures.any_moment t) (g.met.D.Disk.sound c.push_frame.new.disk t) c.requires.frame;
-            others = keeps_names v w name tail.id (c.push_frame.ensures.others t);
+            fits = fits_now v old fits tail some apart w keeps new gate a (with_entry tf.part entry) at placed (tail_id v old fits tail some) tf.at.plain plain.cut plain.floor;
+            parts = λ one f.
+                let now = c.in-Ok.ensures.grown t tf.part one tf.at.whole (frame_at old tail some c.args.frame.now one f) in
+                parts_now v old fits tail some apart w keeps new gate a (with_entry tf.part one) now
+                ∙ sym (gained_with_room size old.greatest (sealed_parts v old fits) tf.part one (tail_has_room v old fits tail some))
+                ∙ ap (λ (l : List Part). gained size old.greatest l one) (sym (with_tail v old fits tail some));
+            alone = alone_now v old fits tail some apart w keeps new gate a (with_entry tf.part entry) at;
+            held = λ held. held_now v old fits tail some apart w keeps new gate a (with_entry tf.part entry) at
+                (c.in-Ok.ensures.held t (sealed_parts v old fits) tf.part entry tf.at.whole c.requires.frame.1 (front_apart v old fits tail some apart) (held_at v old fits tail some apart held));
+            any_moment = λ held one f. left_pushing v old fits tail some apart w size one
+                (c.push_frame.ensures.any_moment t (sealed_parts v old fits) tf.part one tf.at.whole (frame_at old tail some c.args.frame.now one f) (front_apart v old fits tail some apart) (held_at v old fits tail some apart held));
+            empty = λ held none. absurd (none tail.id (still_listed v old fits tail some apart w ((tf.part.last + 1, entry) ∷ []) (frame_size (tf.part.last + 1) entry) (g.met.D.Disk.sound c.push_frame.new.disk t)
+                (c.push_frame.ensures.any_moment t (sealed_parts v old fits) tf.part entry tf.at.whole c.requires.frame.1 (front_apart v old fits tail some apart) (held_at v old fits tail some apart held))));
+            others = keeps_names v w old.name tail.id keeps;
           };
       cause = search rules;
     }
@@ -66,24 +75,28 @@ pub returns-in-Err : goal.returns-in-Err
 returns-in-Err g c = λ size.
     let v = g.D.Disk.view c.args.disk.now in
     let w = g.D.Disk.view c.push_frame.new.disk in
-    let name = c.args.self.now.name in
-    let old = c.args.self.now.tail in
-    let greatest = c.args.self.now.greatest in
+    let old = c.args.self.now in
     let tail = c.args.tail in
     let some = c.requires.tail in
+    let entry = c.requires.frame.0 in
+    let apart = tail_apart old tail some in
     record {
       last = tt;
       greatest = tt;
       name = search rules;
       told = λ t.
-          let files = (c.requires.fits t).files in
+          let fits = c.requires.fits t in
+          let tf = tail_fits v old fits tail some in
           record {
             fits = tt;
             parts = tt;
+            alone = tt;
             held = tt;
-            any_moment = λ held one f. advances_left v name old greatest tail some w c.args.frame.now one files (c.push_frame.ensures.any_moment t) held f;
-            empty = advances_empty v name old greatest tail some w c.args.frame.now files (c.push_frame.ensures.any_moment t) (g.met.D.Disk.sound c.push_frame.new.disk t) c.requires.frame;
-            others = keeps_names v w name tail.id (c.push_frame.ensures.others t);
+            any_moment = λ held one f. left_pushing v old fits tail some apart w size one
+                (c.push_frame.ensures.any_moment t (sealed_parts v old fits) tf.part one tf.at.whole (frame_at old tail some c.args.frame.now one f) (front_apart v old fits tail some apart) (held_at v old fits tail some apart held));
+            empty = λ held none. absurd (none tail.id (still_listed v old fits tail some apart w ((tf.part.last + 1, entry) ∷ []) (frame_size (tf.part.last + 1) entry) (g.met.D.Disk.sound c.push_frame.new.disk t)
+                (c.push_frame.ensures.any_moment t (sealed_parts v old fits) tf.part entry tf.at.whole c.requires.frame.1 (front_apart v old fits tail some apart) (held_at v old fits tail some apart held))));
+            others = keeps_names v w old.name tail.id (c.push_frame.ensures.others t);
           };
       cause = search rules;
     }
