@@ -1,79 +1,105 @@
--- The log that the files of a folder show, and how they lie, where a disk fits what is remembered of it.
-use Rattle.std.proofs.Common.{◌≡◌, ℕ, ◌+◌, ◌-◌, false, List, [], ◌∷◌, ◌++◌, map, Option, Some, None, refl, sym, ap, subst, ◌∙◌, arith}
-use Rattle.std.proofs.lemmas.List.{map-append, append-nil}
+-- The log that the files of a host hold, where a disk fits what is remembered of them, and an entry more.
+use Rattle.std.proofs.Common.{◌≡◌, ℕ, ◌+◌, ◌≤◌, false, true, Bool, if◌then◌else◌, is_none, IsTrue, List, [], ◌∷◌, ◌++◌, length, Option, Some, None, refl, sym, ap, subst, ◌∙◌, arith, length-append, Contains}
 use Rattle.host_types.specs.declared.entry.Entry.{Entry}
-use Rattle.disk_model.specs.declared.file_id.FileId.{FileId}
+use Rattle.host_types.specs.Decision.{MachineDecision}
 use Rattle.disk_model.specs.Image.{Image}
 use Rattle.disk_model.specs.View.{View, MayLeave}
-use Rattle.segment_files.specs.Parse.{Numbered, Part, Whole}
-use Rattle.segment_files.specs.Folder.{folder, AreOf, Stands}
-use Rattle.segment_set.specs.declared.tail.Tail.{Tail}
+use Rattle.segment_files.specs.Parse.{Numbered, Part}
+use Rattle.segment_files.specs.Folder.{AreParts, IsChoice, entries_of, folder}
 use Rattle.segment_set.specs.declared.parts.Parts.{Parts}
-use Rattle.segment_set.specs.Growth.{grown, new_tail}
-use Rattle.segment_set.specs.Fits.{FilesFit, IsTailHeld, bare, log_of, tail_parts, gained, first_id, frame_size, greatest_after}
-use Rattle.segment_set.proofs.AreLogs.{are_none, are_one}
-use Rattle.segment_set.proofs.Gaining.{whole_plain, list_at}
+use Rattle.segment_set.specs.declared.tail.Tail.{Tail}
+use Rattle.segment_set.specs.Growth.{begun, gained, greatest_after, needs_file}
+use Rattle.segment_set.specs.Fits.{Fits, IsHeld, cut_of, floor_of, last_of, parts_in}
+use Rattle.segment_set.proofs.Known.{sealed_full}
+use Rattle.segment_set.proofs.Tiles.{ended_by, tail_has_room, tiles_by}
+use Rattle.log_model.specs.cleaning.Cleaning.{Cleaned}
 use Rattle.log_model.specs.cleaning.Layout.{Layout, with_entry}
-use Rattle.host_recovery.specs.Standing.{layout_in, log_in, part_layout}
+use Rattle.log_model.specs.hosted.Hosted.{Hosted, hosted_entry, hosted_folded, hosted_quiet, hosted_stored}
+use Rattle.log_model.specs.plain.Admission.{Item}
+use Rattle.log_model.proofs.cleaning.Appends.{append_keeps}
+use Rattle.log_model.proofs.hosted.HostedLogs.{grown, quiet_grows_hosted, whole}
+use Rattle.log_model.proofs.hosted.OfMachines.{quiet_within}
+use Rattle.host_recovery.specs.Logs.{AreOf, StandsFor, hosted_form}
+use Rattle.host_recovery.specs.Standing.{layout_in}
+use Rattle.host_recovery.proofs.Lengthening.{AreWhole, begun_cut, begun_ended, begun_entries, begun_floor, begun_tiles, gained_cut, gained_ended, gained_entries, gained_floor, gained_lies, gained_tiles, layout}
 
--- a part that is read whole and begins with the first entry is a log
-one_is : (v : View) (name : List ℕ) (tail : Tail) (p : Part) → folder name v.reading tail.id ≡ Whole p → AreOf (p ∷ []) (log_of (p ∷ []))
-one_is v name tail p whole =
-    subst (λ (l : List Entry). AreOf (p ∷ []) l) (sym (ap bare (append-nil p.entries)))
-    (are_one tail.id p (whole_plain v name tail.id p whole) tail.base_is)
+-- the parts stand end to end up to the last index, with the last entry
+pub parts_whole : (v : View) (parts : Parts) → Fits v parts → AreWhole (parts_in v.reading parts) (last_of parts)
+parts_whole v parts fits = record {
+  tile = tiles_by v parts fits;
+  ended = ended_by v parts fits;
+  full = λ needs p has. by parts.tail refl (sym (tail_has_room v parts fits) ∙ needs) p has;
+}
+  where
+    by : (o : Option Tail) → parts.tail ≡ o → is_none parts.tail ≡ true → (p : Part) → Contains (parts_in v.reading parts) p → p.id.base ≤ p.last
+    by None none needs p has = sealed_full v parts fits none p has
+    by (Some tail) some needs p has = absurd (cc (ap is_none some, needs))
 
-pub parts_are : (v : View) (name : List ℕ) (tail : Option Tail) (greatest : ℕ) → FilesFit v name tail greatest → AreOf (tail_parts v.reading name tail) (log_of (tail_parts v.reading name tail))
-parts_are v name None greatest fits = are_none
-parts_are v name (Some tail) greatest fits =
-    let t = fits.tail_is in
-    subst (λ (ps : List Part). AreOf ps (log_of ps)) (sym (list_at v name tail t.part t.at.whole)) (one_is v name tail t.part t.at.whole)
+-- ---- an image that has parts which hold what is left of a log
 
--- what a crash leaves stands for the log that is shown
-pub stands_now : (v : View) (name : List ℕ) (tail : Option Tail) (greatest : ℕ) → FilesFit v name tail greatest → IsTailHeld v name tail → (image : Image) → MayLeave v image → Stands (folder name image) (log_of (tail_parts v.reading name tail))
-stands_now v name tail greatest fits held image may =
-    record { parts = tail_parts v.reading name tail; choice = held image may; are = parts_are v name tail greatest fits }
+pub stands : (d : MachineDecision) (name : List ℕ) (image : Image) (items : List Item) (ps : List Part) (last : ℕ) → IsChoice (folder name image) ps → AreWhole ps last → last ≡ length items → AreOf (hosted_form d) ps items
+    → StandsFor (hosted_form d) name image items
+stands d name image items ps last choice whole is of = record {
+  parts = ps;
+  are = subst (AreParts (folder name image) ps) is (record { choice = choice; tile = whole.tile; ended = whole.ended });
+  of = of;
+}
 
--- ---- one entry more
+module _ (d : MachineDecision) (items : List Item) (item : Item) (entry : Entry) (size greatest : ℕ) (ps : List Part) (least : 2 ≤ size) (whole_ps : AreWhole ps (length items)) (of : AreOf (hosted_form d) ps items) where
+  abbrev q : ℕ
+  q = hosted_quiet (hosted_folded d items)
 
--- the log and the layout of parts, with this greatest generation
-abbrev shows : List Part → ℕ → List Entry × Layout
-shows parts greatest = (log_of parts, record { parts = map part_layout parts; greatest = greatest })
+  -- a file that has room holds nothing more
+  of_begun : AreOf (hosted_form d) (begun size greatest ps) items
+  of_begun = subst (λ (x : Numbered × ℕ × ℕ). Cleaned x.0 (hosted_stored d items) (hosted_quiet (hosted_folded d items)) x.1 x.2)
+      (λ i. (sym (begun_entries size greatest ps (length items) least whole_ps) i, sym (begun_cut size greatest ps (length items) least whole_ps) i, sym (begun_floor size greatest ps (length items) least whole_ps) i)) of
 
-abbrev more : ℕ → Entry → List Entry × Layout → List Entry × Layout
-more size entry shown = (shown.0 ++ entry ∷ [], with_entry size shown.1)
+  pub stands_begun : (name : List ℕ) (image : Image) → IsChoice (folder name image) (begun size greatest ps) → StandsFor (hosted_form d) name image items
+  stands_begun name image choice = record {
+    parts = begun size greatest ps;
+    are = record { choice = choice; tile = begun_tiles size greatest ps (length items) least whole_ps; ended = begun_ended size greatest ps (length items) least whole_ps };
+    of = of_begun;
+  }
 
--- in the file
-grows : (size greatest long : ℕ) (p : Part) (entry : Entry) → shows (grown p ((p.last + 1, entry) ∷ []) long ∷ []) greatest ≡ more size entry (shows (p ∷ []) greatest)
-grows size greatest long p entry =
-    let log : bare ((p.entries ++ (p.last + 1, entry) ∷ []) ++ []) ≡ bare (p.entries ++ []) ++ entry ∷ [] =
-    ap bare (append-nil (p.entries ++ (p.last + 1, entry) ∷ []))
-    ∙ map-append (λ (e : ℕ × Entry). e.1) p.entries ((p.last + 1, entry) ∷ [])
-    ∙ ap (λ (es : Numbered). bare es ++ entry ∷ []) (sym (append-nil p.entries)) in
-    let present : map (λ (e : ℕ × Entry). e.0) (p.entries ++ (p.last + 1, entry) ∷ []) ≡ map (λ (e : ℕ × Entry). e.0) p.entries ++ (p.last + 1) ∷ [] =
-    map-append (λ (e : ℕ × Entry). e.0) p.entries ((p.last + 1, entry) ∷ []) in
-    λ i. (log i, record { parts = record { base = p.id.base; last = p.last + 1; present = present i; cut = p.cut; floor = p.floor; generation = p.id.generation; size = p.size; rewritten = p.rewritten } ∷ []; greatest = greatest })
+  -- the entry that is stored of the item
+  module _ (is : entry ≡ hosted_entry d (hosted_folded d items) item) where
+    later : q ≤ hosted_quiet (hosted_folded d (items ++ item ∷ []))
+    later = quiet_grows_hosted d items (item ∷ [])
 
--- in a new one
-begins : (size greatest long : ℕ) (id : FileId) (entry : Entry) → id.base ≡ 1 → id.generation ≡ greatest + 1
-    → shows (grown (new_tail id size) ((1, entry) ∷ []) long ∷ []) (greatest + 1) ≡ more size entry (shows [] greatest)
-begins size greatest long id entry base generation =
-    let last : id.base - 1 + 1 ≡ 1 = omega (arith, base) in
-    λ i. (entry ∷ [], record { parts = record { base = base i; last = last i; present = 1 ∷ []; cut = 0; floor = 0; generation = generation i; size = size; rewritten = false } ∷ []; greatest = greatest + 1 })
+    low : cut_of ps ≤ length (hosted_stored d items)
+    low =
+        let w = whole d items in
+        let quiet = of.is_quiet in
+        omega (arith, quiet, quiet_within (hosted_folded d items), w.last, w.length)
 
-gains : (v : View) (name : List ℕ) (tail : Option Tail) (greatest size : ℕ) (entry : Entry) → FilesFit v name tail greatest
-    → shows (gained size greatest (tail_parts v.reading name tail) entry) (greatest_after tail greatest) ≡ more size entry (shows (tail_parts v.reading name tail) greatest)
-gains v name None greatest size entry fits = begins size greatest (frame_size 1 entry) (first_id (greatest + 1)) entry refl refl
-gains v name (Some tail) greatest size entry fits =
-    let t = fits.tail_is in
-    subst (λ (ps : List Part). shows (gained size greatest ps entry) greatest ≡ more size entry (shows ps greatest)) (sym (list_at v name tail t.part t.at.whole))
-    (grows size greatest (frame_size (t.part.last + 1) entry) t.part entry)
+    more : Cleaned (entries_of ps ++ (length (hosted_stored d items) + 1, entry) ∷ []) (hosted_stored d items ++ entry ∷ []) (hosted_quiet (hosted_folded d (items ++ item ∷ []))) (cut_of ps) (floor_of ps)
+    more = append_keeps (entries_of ps) (hosted_stored d items) q (hosted_quiet (hosted_folded d (items ++ item ∷ []))) (cut_of ps) (floor_of ps) entry of low
+        (let quiet = of.is_quiet in omega (arith, quiet, later))
 
--- what the files show once an entry was appended
-pub shows_more : (v w : View) (old new : Parts) (size : ℕ) (entry : Entry) → FilesFit v old.name old.tail old.greatest
-    → tail_parts w.reading new.name new.tail ≡ gained size old.greatest (tail_parts v.reading old.name old.tail) entry → new.greatest ≡ greatest_after old.tail old.greatest
-    → (log_in w new ≡ log_in v old ++ entry ∷ []) × (layout_in w new ≡ with_entry size (layout_in v old))
-shows_more v w old new size entry fits parts greatest =
-    let all : shows (tail_parts w.reading new.name new.tail) new.greatest ≡ more size entry (shows (tail_parts v.reading old.name old.tail) old.greatest) =
-    (λ i. shows (parts i) (greatest i))
-    ∙ gains v old.name old.tail old.greatest size entry fits in
-    (ap (λ (x : List Entry × Layout). x.0) all, ap (λ (x : List Entry × Layout). x.1) all)
+    -- with the entry they hold what is left of the log with the item
+    pub of_gained : AreOf (hosted_form d) (gained size greatest ps entry) (items ++ item ∷ [])
+    of_gained =
+        let w = whole d items in
+        let entries : entries_of ps ++ (length (hosted_stored d items) + 1, entry) ∷ [] ≡ entries_of (gained size greatest ps entry) =
+        ap (λ (n : ℕ). entries_of ps ++ (n + 1, entry) ∷ []) w.length ∙ sym (gained_entries size greatest ps (length items) least whole_ps entry) in
+        let stored : hosted_stored d items ++ entry ∷ [] ≡ hosted_stored d (items ++ item ∷ []) = ap (λ (e : Entry). hosted_stored d items ++ e ∷ []) is ∙ sym (grown d items item).stored in
+        subst (λ (x : Numbered × List Entry × ℕ × ℕ). Cleaned x.0 x.1 (hosted_quiet (hosted_folded d (items ++ item ∷ []))) x.2 x.3)
+        (λ i. (entries i, stored i, sym (gained_cut size greatest ps (length items) least whole_ps entry) i, sym (gained_floor size greatest ps (length items) least whole_ps entry) i)) more
+
+    pub stands_gained : (name : List ℕ) (image : Image) → IsChoice (folder name image) (gained size greatest ps entry) → StandsFor (hosted_form d) name image (items ++ item ∷ [])
+    stands_gained name image choice =
+        let long : length items + 1 ≡ length (items ++ item ∷ []) = omega (arith, length-append items (item ∷ [])) in
+        record {
+          parts = gained size greatest ps entry;
+          are = subst (AreParts (folder name image) (gained size greatest ps entry)) long
+              (record { choice = choice; tile = gained_tiles size greatest ps (length items) least whole_ps entry; ended = gained_ended size greatest ps (length items) least whole_ps entry });
+          of = of_gained;
+        }
+
+-- how the files lie once an entry was appended
+pub lies_more : (v w : View) (old new : Parts) (size : ℕ) (entry : Entry) → Fits v old → parts_in w.reading new ≡ gained size old.greatest (parts_in v.reading old) entry → new.greatest ≡ greatest_after (is_none old.tail) old.greatest
+    → layout_in w new ≡ with_entry size (layout_in v old)
+lies_more v w old new size entry fits parts greatest =
+    let needs : needs_file (parts_in v.reading old) ≡ is_none old.tail = tail_has_room v old fits in
+    (λ i. layout (parts i) ((greatest ∙ ap (λ (t : Bool). greatest_after t old.greatest) (sym needs)) i))
+    ∙ gained_lies size old.greatest (parts_in v.reading old) entry

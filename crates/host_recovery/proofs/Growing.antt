@@ -1,5 +1,5 @@
 -- A host that stands at a log, and an item more.
-use Rattle.std.proofs.Common.{◌≡◌, inl, inr, ⊎_elim, ℕ, ◌+◌, ◌≤◌, ◌<◌, nat_le, nat_lt, Bool, cond, Some, arith, false, IsTrue, Ok, List, [], ◌∷◌, ◌++◌, refl, sym, ap, subst, ◌∙◌}
+use Rattle.std.proofs.Common.{◌≡◌, inl, inr, ⊎_elim, ℕ, ◌+◌, ◌≤◌, ◌<◌, nat_le, nat_lt, Bool, cond, Some, arith, false, IsTrue, Ok, List, [], ◌∷◌, ◌++◌, length, refl, sym, ap, subst, ◌∙◌}
 use Rattle.std.proofs.lemmas.Bool.{and_from}
 use Rattle.std.proofs.lemmas.Bool.Decides.{nat_tests}
 use Rattle.host_types.specs.Cells.{Cells}
@@ -10,48 +10,58 @@ use Rattle.host_types.specs.declared.entry.Body.TheVariants as bodies
 use Rattle.host_types.specs.declared.entry.Entry.{Entry}
 use Rattle.host_types.specs.declared.entry.Refusal.{Refusal}
 use Rattle.host_types.specs.declared.entry.Refusal.TheVariants.{Time, LogEnd}
-use Rattle.host_types.specs.Limits.{last_limit}
+use Rattle.host_types.specs.Limits.{index_limit}
 use Rattle.std.specs.Cmp.{nat_eq_equiv}
 use Rattle.disk_model.specs.Image.{Image}
 use Rattle.disk_model.specs.View.{View, IsSound as IsDiskSound, LeavesOnly, MayLeave}
 use Rattle.disk_model.proofs.Moments.{started, weaker}
 use Rattle.host_types.specs.declared.entry.Offer.{Offer}
-use Rattle.segment_files.specs.Folder.{folder, Stands}
+use Rattle.segment_files.specs.Parse.{Part}
 use Rattle.segment_set.specs.declared.parts.Parts.{Parts}
-use Rattle.segment_set.specs.Fits.{FilesFit, IsTailHeld, StandsOrGains as FilesStandOrGain}
+use Rattle.segment_set.specs.Fits.{IsHeld, last_of, parts_in}
+use Rattle.segment_set.specs.Growth.{HasOrGains, gained}
 use Rattle.log_model.specs.plain.Admission.{Item, Expired, Expiry, Expires, Nobody, Not_now, Offered, due_in, expires_due, Admission, Admitted, Repeats, Refused, first_refusal}
 use Rattle.log_model.specs.plain.Fitting.{ItemFits, ItemsFit}
-use Rattle.log_model.specs.hosted.Hosted.{Hosted, hosted_admits, hosted_expires, hosted_entry, hosted_folded, hosted_stored, hosted_told, is_hosted_admitted, is_hosted_log}
+use Rattle.log_model.specs.hosted.Hosted.{Hosted, hosted_admits, hosted_expires, hosted_entry, hosted_folded, hosted_told, is_hosted_admitted, is_hosted_log}
 use Rattle.log_model.specs.replay.Replay.{replay_entry}
 use Rattle.log_model.specs.hosted.Sound.{IsSound}
 use Rattle.log_model.specs.plain.Stored.{is_admission, is_expiry_of}
-use Rattle.log_model.proofs.hosted.HostedLogs.{grown}
+use Rattle.log_model.proofs.hosted.HostedLogs.{grown, whole}
 use Rattle.log_model.proofs.hosted.OfMachines.{admitted_in_range, logs_sound, step_is_replay}
 use Rattle.host_core.specs.CoreState.{hosted}
 use Rattle.host_recovery.specs.HostState.{HostState}
-use Rattle.host_recovery.specs.Logs.{StandsFor, hosted_form}
-use Rattle.host_recovery.specs.Standing.{StandsAt, StandsOrExpires, StandsOrGains, StandsOrTakes, log_in}
+use Rattle.host_recovery.specs.Logs.{AreOf, StandsFor, hosted_form}
+use Rattle.host_recovery.specs.Standing.{IsKept, StandsAt, StandsOrExpires, StandsOrGains, StandsOrTakes}
 use Rattle.host_recovery.specs.Answers.{OnAnswer, admits_file, admits_stored, answer_of, expiry_stored, if_filed}
 use Rattle.host_recovery.specs.declared.answers.Answer.{Answer}
-use Rattle.host_recovery.proofs.Files.{stands_now}
+use Rattle.host_recovery.proofs.Files.{of_gained, parts_whole, stands, stands_begun, stands_gained}
+use Rattle.host_recovery.proofs.Lengthening.{AreWhole}
 
 fit_more : (items : List Item) (item : Item) → ItemsFit items → ItemFits item → ItemsFit (items ++ item ∷ [])
 fit_more [] item fit here = (here, tt)
 fit_more (x ∷ items) item fit here = (fit.0, fit_more items item fit.1 here)
 
-module _ {D M : Type 0} (d : MachineDecision) (view : D → View) (cells : M → Cells) (old : HostState D M) (items : List Item) (item : Item) (entry : Entry) where
-  -- what is stored of the item makes the log's stored form longer
-  stored_more : StandsAt d view cells old items → entry ≡ hosted_entry d (hosted cells old.core) item → log_in (view old.disk) old.parts ++ entry ∷ [] ≡ hosted_stored d (items ++ item ∷ [])
-  stored_more at is =
-      (λ i. at.stored i ++ (is ∙ ap (λ (s : Hosted). hosted_entry d s item) at.state) i ∷ []) ∙ sym (grown d items item).stored
+-- the files stand end to end up to the log's last index
+pub whole_at : {D M : Type 0} (d : MachineDecision) (tells : Bool) (view : D → View) (cells : M → Cells) (h : HostState D M) (items : List Item) → IsKept tells view cells h → IsTrue tells → StandsAt d view cells h items
+    → AreWhole (parts_in (view h.disk).reading h.parts) (length items)
+whole_at d tells view cells h items kept t at =
+    let last : last_of h.parts ≡ length items = sym (kept.last at.runs) ∙ ap (λ (s : Hosted). s.last) at.state ∙ (whole d items).last in
+    subst (AreWhole (parts_in (view h.disk).reading h.parts)) last (parts_whole (view h.disk) h.parts (kept.fits at.runs t))
+
+module _ {D M : Type 0} (d : MachineDecision) (tells : Bool) (view : D → View) (cells : M → Cells) (old : HostState D M) (items : List Item) (item : Item) (entry : Entry) (kept : IsKept tells view cells old) (t : IsTrue tells) where
+  abbrev ps : List Part
+  ps = parts_in (view old.disk).reading old.parts
+
+  of_log : StandsAt d view cells old items → entry ≡ hosted_entry d (hosted cells old.core) item → entry ≡ hosted_entry d (hosted_folded d items) item
+  of_log at is = is ∙ ap (λ (s : Hosted). hosted_entry d s item) at.state
 
   -- with the item it stands at the log with the item
   pub stands_more : (new : HostState D M) → MachineIsLawful d → StandsAt d view cells old items → ItemFits item → IsTrue (is_hosted_admitted d (hosted cells old.core) item)
       → entry ≡ hosted_entry d (hosted cells old.core) item → new.stopped ≡ false
       → hosted cells new.core ≡ replay_entry (hosted_told d) 0 (hosted cells old.core) ((hosted cells old.core).last + 1, entry)
-      → log_in (view new.disk) new.parts ≡ log_in (view old.disk) old.parts ++ entry ∷ [] → IsTailHeld (view new.disk) new.parts.name new.parts.tail
+      → parts_in (view new.disk).reading new.parts ≡ gained old.size old.parts.greatest (parts_in (view old.disk).reading old.parts) entry → IsHeld (view new.disk) new.parts
       → StandsAt d view cells new (items ++ item ∷ [])
-  stands_more new lawful at fit admitted is runs state log held =
+  stands_more new lawful at fit admitted is runs state parts held =
       let g = grown d items item in
       let f : Hosted = hosted_folded d items in
       let ok : IsTrue (is_hosted_admitted d f item) = subst (λ (s : Hosted). IsTrue (is_hosted_admitted d s item)) at.state admitted in
@@ -62,7 +72,7 @@ module _ {D M : Type 0} (d : MachineDecision) (view : D → View) (cells : M →
           admitted = subst IsTrue (sym g.log) (and_from (is_hosted_log d items) (is_hosted_admitted d f item) at.log.admitted ok);
           fits = fit_more items item at.log.fits fit;
         };
-        stored = log ∙ stored_more at is;
+        of = subst (λ (l : List Part). AreOf (hosted_form d) l (items ++ item ∷ [])) (sym parts) (of_gained d items item entry old.size old.parts.greatest ps kept.size_first (whole_at d tells view cells old items kept t at) at.of (of_log at is));
         held = held;
         state = state
             ∙ (λ i. replay_entry (hosted_told d) 0 (at.state i) ((at.state i).last + 1, (is ∙ ap (λ (s : Hosted). hosted_entry d s item) at.state) i))
@@ -72,17 +82,21 @@ module _ {D M : Type 0} (d : MachineDecision) (view : D → View) (cells : M →
 
   -- what a crash leaves while the entry is stored stands for the log without the item or with it
   pub leaves_more : (w : View) → StandsAt d view cells old items → entry ≡ hosted_entry d (hosted cells old.core) item
-      → LeavesOnly (view old.disk) w (FilesStandOrGain old.parts.name (log_in (view old.disk) old.parts) entry) → LeavesOnly (view old.disk) w (StandsOrGains d old.parts.name items item)
+      → LeavesOnly (view old.disk) w (HasOrGains old.parts.name old.size old.parts.greatest (parts_in (view old.disk).reading old.parts) entry) → LeavesOnly (view old.disk) w (StandsOrGains d old.parts.name items item)
   leaves_more w at is only =
-      weaker (view old.disk) w (FilesStandOrGain old.parts.name (log_in (view old.disk) old.parts) entry) (StandsOrGains d old.parts.name items item) only
-      (λ c has. ⊎_elim (λ old_log. inl (subst (λ (l : List Entry). Stands (folder old.parts.name c) l) at.stored old_log))
-      (λ new_log. inr (subst (λ (l : List Entry). Stands (folder old.parts.name c) l) (stored_more at is) new_log)) has)
+      weaker (view old.disk) w (HasOrGains old.parts.name old.size old.parts.greatest ps entry) (StandsOrGains d old.parts.name items item) only
+      (λ c has. ⊎_elim
+      (λ same. inl (stands d old.parts.name c items ps (length items) same (whole_at d tells view cells old items kept t at) refl at.of))
+      (λ rest. ⊎_elim
+      (λ begun. inl (stands_begun d items item entry old.size old.parts.greatest ps kept.size_first (whole_at d tells view cells old items kept t at) at.of old.parts.name c begun))
+      (λ more. inr (stands_gained d items item entry old.size old.parts.greatest ps kept.size_first (whole_at d tells view cells old items kept t at) at.of (of_log at is) old.parts.name c more))
+      rest)
+      has)
 
 -- what a crash leaves of a host where nothing is done
 pub stands_for : {D M : Type 0} (d : MachineDecision) (view : D → View) (cells : M → Cells) (h : HostState D M) (items : List Item) → StandsAt d view cells h items
-    → FilesFit (view h.disk) h.parts.name h.parts.tail h.parts.greatest → (c : Image) → MayLeave (view h.disk) c → StandsFor (hosted_form d) h.parts.name c items
-stands_for d view cells h items at fits c may =
-    subst (λ (l : List Entry). Stands (folder h.parts.name c) l) at.stored (stands_now (view h.disk) h.parts.name h.parts.tail h.parts.greatest fits at.held c may)
+    → AreWhole (parts_in (view h.disk).reading h.parts) (length items) → (c : Image) → MayLeave (view h.disk) c → StandsFor (hosted_form d) h.parts.name c items
+stands_for d view cells h items at whole c may = stands d h.parts.name c items (parts_in (view h.disk).reading h.parts) (length items) (at.held c may) whole refl at.of
 
 module _ {D M : Type 0} (d : MachineDecision) (view : D → View) (cells : M → Cells) (h : HostState D M) (items : List Item) (item : Item) where
   none_taken : (admission : Admission) (c : Image) → StandsFor (hosted_form d) h.parts.name c items → StandsOrTakes d h.parts.name items item admission c
@@ -91,7 +105,7 @@ module _ {D M : Type 0} (d : MachineDecision) (view : D → View) (cells : M →
   none_taken (Refused why) c stands = stands
 
   -- a log that is left alone stays, whatever is offered
-  pub stays_untaken : (admission : Admission) → IsDiskSound (view h.disk) → StandsAt d view cells h items → FilesFit (view h.disk) h.parts.name h.parts.tail h.parts.greatest
+  pub stays_untaken : (admission : Admission) → IsDiskSound (view h.disk) → StandsAt d view cells h items → AreWhole (parts_in (view h.disk).reading h.parts) (length items)
       → LeavesOnly (view h.disk) (view h.disk) (StandsOrTakes d h.parts.name items item admission)
   stays_untaken admission sound at fits =
       started (view h.disk) (StandsOrTakes d h.parts.name items item admission) sound (λ c may. none_taken admission c (stands_for d view cells h items at fits c may))
@@ -139,11 +153,11 @@ answered index body answer X Y is y = subst (λ (a : Answer). OnAnswer (Ok a) X 
 -- ---- who expires
 
 -- the due session with the least id does, where the time isn't early and the log goes on
-pub expires_so : (s : Hosted) (time session : ℕ) → s.now ≤ time → due_in time s.sessions ≡ Some session → s.last < last_limit → hosted_expires s time ≡ Expires session
+pub expires_so : (s : Hosted) (time session : ℕ) → s.now ≤ time → due_in time s.sessions ≡ Some session → s.last < index_limit → hosted_expires s time ≡ Expires session
 expires_so s time session late due short =
     ap (λ (b : Bool). cond b (Not_now (Time s.now)) (expires_due s.last (due_in time s.sessions))) (not_below time s.now late)
     ∙ ap (expires_due s.last) due
-    ∙ ap (λ (b : Bool). cond b (Not_now LogEnd) (Expires session)) (not_within last_limit s.last short)
+    ∙ ap (λ (b : Bool). cond b (Not_now LogEnd) (Expires session)) (not_within index_limit s.last short)
   where
     not_below : (a b : ℕ) → b ≤ a → nat_lt a b ≡ false
     not_below a b le = grind (arith, nat_tests)
@@ -161,7 +175,7 @@ module _ {D M : Type 0} (d : MachineDecision) (view : D → View) (cells : M →
   none_expired (Not_now why) c stands = stands
 
   -- a log that is left alone stays, whoever is due
-  pub stays_unexpired : (expiry : Expiry) → IsDiskSound (view h.disk) → StandsAt d view cells h items → FilesFit (view h.disk) h.parts.name h.parts.tail h.parts.greatest
+  pub stays_unexpired : (expiry : Expiry) → IsDiskSound (view h.disk) → StandsAt d view cells h items → AreWhole (parts_in (view h.disk).reading h.parts) (length items)
       → LeavesOnly (view h.disk) (view h.disk) (StandsOrExpires d h.parts.name items time expiry)
   stays_unexpired expiry sound at fits =
       started (view h.disk) (StandsOrExpires d h.parts.name items time expiry) sound (λ c may. none_expired expiry c (stands_for d view cells h items at fits c may))

@@ -2,6 +2,7 @@ pub mod Confirmed
 pub mod Files
 pub mod Growing
 pub mod Laying
+pub mod Lengthening
 pub mod Loading
 pub mod Openings
 pub mod Opens

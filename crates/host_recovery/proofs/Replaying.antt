@@ -1,40 +1,96 @@
--- The entries of files are replayed one after the other, each read from its place.
-use Rattle.std.proofs.Common.{◌≡◌, ℕ, ◌+◌, ◌-◌, ◌<◌, ◌≤◌, [], ◌∷◌, ◌++◌, length, take, get_or, Some, refl, sym, ap, ◌∙◌, arith}
-use Rattle.std.proofs.lemmas.List.{take_more, take_all}
+-- The entries of files are replayed one after the other, by rising index, each read from its place.
+use Rattle.std.proofs.Common.{◌≡◌, ◌⊎◌, inl, inr, ⊎_elim, ℕ, ◌+◌, ◌<◌, ◌≤◌, Bool, T, cond, IsTrue, List, [], ◌∷◌, ◌++◌, refl, sym, ap, subst, ◌∙◌, arith, Contains}
+use Rattle.std.specs.FinMap.{is_sorted}
+use Rattle.std.specs.Ordering.{nat_cmp}
+use Rattle.std.proofs.lemmas.Bool.{cases_lt, le-leb, lt-leb}
 use Rattle.host_types.specs.declared.entry.Entry.{Entry}
-use Rattle.disk_model.specs.View.{View}
-use Rattle.segment_files.specs.Parse.{Numbered}
-use Rattle.segment_files.specs.Folder.{entries_of}
-use Rattle.segment_set.specs.declared.parts.Parts.{Parts}
-use Rattle.segment_set.specs.Fits.{Fits, IsEntryAt, parts_in}
-use Rattle.segment_set.specs.Tails.{tail_last}
-use Rattle.segment_set.proofs.Entries.{all_counted, at_position}
+use Rattle.log_model.specs.cleaning.Cells.{Numbered, up_to}
 use Rattle.log_model.specs.hosted.Hosted.{Hosted}
 use Rattle.log_model.specs.replay.Replay.{Telling, replay_entry, replay_from}
+use Rattle.segment_set.proofs.Images.{here, nothing, one_of}
+use Rattle.segment_set.proofs.Lying.{there}
+use Rattle.log_model.proofs.Lookups.{T_from}
+use Rattle.log_model.proofs.cleaning.Indexed.{sorted_parts}
 
 -- one entry more
 pub replay_more : (telling : Telling) (cut : ℕ) (s : Hosted) (xs : Numbered) (x : ℕ × Entry) → replay_from telling cut s (xs ++ x ∷ []) ≡ replay_entry telling cut (replay_from telling cut s xs) x
 replay_more telling cut s [] x = refl
 replay_more telling cut s (y ∷ xs) x = replay_more telling cut (replay_entry telling cut s y) xs x
 
-module _ (v : View) (parts : Parts) (fits : Fits v parts) (telling : Telling) (first : Hosted) where
-  abbrev all : Numbered
-  all = entries_of (parts_in v.reading parts)
+-- ---- ENTRIES by rising index
 
-  -- the next one was read and replayed
-  pub replayed_next : (index : ℕ) (entry : Entry) (now new : Hosted) → now ≡ replay_from telling 0 first (take index (entries_of (parts_in v.reading parts))) → IsEntryAt (entries_of (parts_in v.reading parts)) (index + 1) (Some entry)
-      → new ≡ replay_entry telling 0 now (index + 1, entry) → new ≡ replay_from telling 0 first (take (index + 1) (entries_of (parts_in v.reading parts)))
-  replayed_next index entry now new so_far has is =
-      let at = at_position v parts fits (index + 1) entry has in
-      let lt : index + 1 - 1 < length all = at.0 in
-      let same : index + 1 - 1 ≡ index = omega arith in
-      let here : get_or all index (index + 1, entry) ≡ (index + 1, entry) = ap (λ (k : ℕ). get_or all k (index + 1, entry)) (sym same) ∙ at.1 (index + 1, entry) in
+-- each is above the one before, and the first above this index
+abbrev pub RiseFrom : ℕ → Numbered → Type 0
+RiseFrom low [] = Unit {0}
+RiseFrom low (x ∷ xs) = (low < x.0) × RiseFrom x.0 xs
+
+kept : (k : ℕ) (x : ℕ × Entry) (xs : Numbered) → x.0 ≤ k → up_to k (x ∷ xs) ≡ x ∷ up_to k xs
+kept k x xs le = ap (λ (t : Bool). cond t (x ∷ up_to k xs) (up_to k xs)) (le-leb x.0 k le)
+
+left_out : (k : ℕ) (x : ℕ × Entry) (xs : Numbered) → k < x.0 → up_to k (x ∷ xs) ≡ up_to k xs
+left_out k x xs lt = ap (λ (t : Bool). cond t (x ∷ up_to k xs) (up_to k xs)) (lt-leb x.0 k lt)
+
+pub none_up_to : (k low : ℕ) (xs : Numbered) → k ≤ low → RiseFrom low xs → up_to k xs ≡ []
+none_up_to k low [] le rise = refl
+none_up_to k low (x ∷ xs) le rise = left_out k x xs (let above = rise.0 in omega (arith, above, le)) ∙ none_up_to k x.0 xs (let above = rise.0 in omega (arith, above, le)) rise.1
+
+pub all_up_to : (k : ℕ) (xs : Numbered) → ((x : ℕ × Entry) → Contains xs x → x.0 ≤ k) → up_to k xs ≡ xs
+all_up_to k [] low = refl
+all_up_to k (x ∷ xs) low = kept k x xs (low x (here x xs)) ∙ ap (λ (l : Numbered). x ∷ l) (all_up_to k xs (λ y has. low y (there x xs y has)))
+
+above : (low : ℕ) (xs : Numbered) (x : ℕ × Entry) → RiseFrom low xs → Contains xs x → low < x.0
+above low [] x rise has = absurd (nothing x has)
+above low (y ∷ xs) x rise has = ⊎_elim
+    (λ is. let first = rise.0 in subst (λ (z : ℕ × Entry). low < z.0) is first)
+    (λ later. let first = rise.0 in let rest = above y.0 xs x rise.1 later in omega (arith, first, rest))
+    (one_of y xs x has)
+
+-- the one that comes next after an index
+pub next_up_to : (low index : ℕ) (xs : Numbered) (i : ℕ) (entry : Entry) → RiseFrom low xs → Contains xs (i, entry) → index < i → ((x : ℕ × Entry) → Contains xs x → index < x.0 → i ≤ x.0)
+    → up_to i xs ≡ up_to index xs ++ (i, entry) ∷ []
+next_up_to low index [] i entry rise has later least = absurd (nothing (i, entry) has)
+next_up_to low index (x ∷ xs) i entry rise has later least = ⊎_elim
+    (λ before.
+    let in_rest : Contains xs (i, entry) = ⊎_elim (λ is. let same = ap (λ (z : ℕ × Entry). z.0) is in absurd (omega (arith, same, before, later))) (λ rest. rest) (one_of x xs (i, entry) has) in
+    kept i x xs (omega (arith, before, later))
+    ∙ ap (λ (l : Numbered). x ∷ l) (next_up_to x.0 index xs i entry rise.1 in_rest later (λ y h. least y (there x xs y h)))
+    ∙ ap (λ (l : Numbered). l ++ (i, entry) ∷ []) (sym (kept index x xs before)))
+    (λ (behind : index < x.0).
+    let low_x = least x (here x xs) behind in
+    let is : x ≡ (i, entry) = ⊎_elim (λ same. same) (λ rest. let up = above x.0 xs (i, entry) rise.1 rest in absurd (omega (arith, up, low_x))) (one_of x xs (i, entry) has) in
+    let at : x.0 ≡ i = ap (λ (z : ℕ × Entry). z.0) is in
+    kept i x xs (omega (arith, at))
+    ∙ (λ j. is j ∷ none_up_to i x.0 xs (omega (arith, at)) rise.1 j)
+    ∙ ap (λ (l : Numbered). l ++ (i, entry) ∷ []) (sym (left_out index x xs behind ∙ none_up_to index x.0 xs (omega (arith, behind)) rise.1)))
+    (cases x.0 index)
+  where
+    cases : (a b : ℕ) → (a ≤ b) ⊎ (b < a)
+    cases a b = ⊎_elim (λ less. inr less) (λ le. inl le) (cases_lt b a)
+
+-- ---- the replay so far
+
+module _ (telling : Telling) (cut : ℕ) (first : Hosted) (all : Numbered) (rise : RiseFrom 0 all) where
+  -- the next one was replayed
+  pub replayed_next : (index i : ℕ) (entry : Entry) (now new : Hosted) → now ≡ replay_from telling cut first (up_to index all) → Contains all (i, entry) → index < i → ((x : ℕ × Entry) → Contains all x → index < x.0 → i ≤ x.0)
+      → new ≡ replay_entry telling cut now (i, entry) → new ≡ replay_from telling cut first (up_to i all)
+  replayed_next index i entry now new so_far has later least is =
       is
-      ∙ ap (λ (s : Hosted). replay_entry telling 0 s (index + 1, entry)) so_far
-      ∙ sym (replay_more telling 0 first (take index all) (index + 1, entry))
-      ∙ ap (λ (e : ℕ × Entry). replay_from telling 0 first (take index all ++ e ∷ [])) (sym here)
-      ∙ ap (replay_from telling 0 first) (sym (take_more all index (index + 1, entry) (omega (arith, lt))))
+      ∙ ap (λ (s : Hosted). replay_entry telling cut s (i, entry)) so_far
+      ∙ sym (replay_more telling cut first (up_to index all) (i, entry))
+      ∙ ap (replay_from telling cut first) (sym (next_up_to 0 index all i entry rise has later least))
 
-  -- all of them
-  pub replayed_all : (index : ℕ) (now : Hosted) → tail_last parts.tail ≤ index → now ≡ replay_from telling 0 first (take index (entries_of (parts_in v.reading parts))) → now ≡ replay_from telling 0 first (entries_of (parts_in v.reading parts))
-  replayed_all index now le so_far = so_far ∙ ap (replay_from telling 0 first) (take_all index all (omega (arith, le, all_counted v parts fits)))
+  pub replayed_all : (index : ℕ) (now : Hosted) → ((x : ℕ × Entry) → Contains all x → x.0 ≤ index) → now ≡ replay_from telling cut first (up_to index all) → now ≡ replay_from telling cut first all
+  replayed_all index now low so_far = so_far ∙ ap (replay_from telling cut first) (all_up_to index all low)
+
+  pub none_yet : first ≡ replay_from telling cut first (up_to 0 all)
+  none_yet = ap (replay_from telling cut first) (sym (none_up_to 0 0 all (omega arith) rise))
+
+-- ---- what rises, in the form of finite maps
+
+pub rises : (xs : Numbered) → IsTrue (is_sorted nat_cmp xs) → ((x : ℕ × Entry) → Contains xs x → 1 ≤ x.0) → RiseFrom 0 xs
+rises [] sorted first = tt
+rises (x ∷ xs) sorted first = (first x (here x xs), go x xs (T_from _ sorted))
+  where
+    go : (x : ℕ × Entry) (xs : Numbered) → T (is_sorted nat_cmp (x ∷ xs)) → RiseFrom x.0 xs
+    go x [] sorted = tt
+    go x (y ∷ ys) sorted = let p = sorted_parts x (y ∷ ys) sorted in (p.0.0, go y ys p.1)

@@ -9,13 +9,13 @@ use Rattle.disk_model.specs.View.{View, IsSound, LeavesOnly}
 use Rattle.disk_model.proofs.Moments.{started}
 use Rattle.segment_files.specs.Contents.{shut_frame_bytes}
 use Rattle.segment_set.specs.declared.parts.Parts.{Parts}
-use Rattle.segment_set.specs.Fits.{FilesFit, IsEmptyWhereNone, IsFrameFor, IsTailHeld, StandsOrGains}
-use Rattle.segment_set.proofs.Emptied.{held_empty}
+use Rattle.segment_files.specs.Folder.{EachHas}
+use Rattle.segment_set.specs.Fits.{Fits, IsEmptyWhereNone, IsHeld, parts_in}
+use Rattle.segment_set.specs.Growth.{HasOrGains, IsFrameFor}
 use Rattle.segment_set.specs.declared.tail.Tail.{Tail}
+use Rattle.segment_set.proofs.Known.{no_parts}
 use Rattle.log_model.specs.plain.Admission.{Admitted, refused_if}
 use Rattle.host_recovery.specs.Answers.{admits_file, finds_file}
-use Rattle.host_recovery.specs.Standing.{log_in}
-use Rattle.host_recovery.proofs.Files.{stands_now}
 
 -- the frame is one for the entry behind the last
 pub frame_for : (last index : ℕ) (frame : List ℕ) (entry : Entry) → index ≡ last → IsInRange (index + 1) entry → EntryFits entry → frame ≡ shut_frame_bytes ((index + 1, entry) ∷ []) → IsFrameFor last frame entry
@@ -26,13 +26,13 @@ frame_for last index frame entry is range fits bytes = record {
 }
 
 -- nothing was done yet
-pub not_yet : (v : View) (parts : Parts) (entry : Entry) → IsSound v → FilesFit v parts.name parts.tail parts.greatest → IsTailHeld v parts.name parts.tail
-    → LeavesOnly v v (StandsOrGains parts.name (log_in v parts) entry)
-not_yet v parts entry sound fits held =
-    started v (StandsOrGains parts.name (log_in v parts) entry) sound (λ c may. inl (stands_now v parts.name parts.tail parts.greatest fits held c may))
+pub not_yet : (v : View) (parts : Parts) (size : ℕ) (entry : Entry) → IsSound v → IsHeld v parts → LeavesOnly v v (HasOrGains parts.name size parts.greatest (parts_in v.reading parts) entry)
+not_yet v parts size entry sound held =
+    started v (HasOrGains parts.name size parts.greatest (parts_in v.reading parts) entry) sound (λ c may. inl (held c may))
 
-pub stays_empty : (v : View) (parts : Parts) → FilesFit v parts.name parts.tail parts.greatest → IsTailHeld v parts.name parts.tail → IsEmptyWhereNone v parts.name
-stays_empty v parts fits held = held_empty v parts.name parts.tail parts.greatest fits held
+-- a listed file is a part, and where none is listed there is none
+pub stays_empty : (v : View) (parts : Parts) → Fits v parts → IsHeld v parts → IsEmptyWhereNone v parts.name
+stays_empty v parts fits held none = subst (EachHas v parts.name) (no_parts v parts fits none) held
 
 -- where an entry finds a file, and a new one is needed, a generation is left for it
 pub file_left : (parts : Parts) → admits_file parts ≡ Admitted → parts.tail ≡ None → parts.greatest < index_limit

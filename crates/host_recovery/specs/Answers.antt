@@ -10,6 +10,7 @@ use Rattle.host_types.specs.declared.entry.Reply.{Reply}
 use Rattle.disk_model.specs.declared.disk.DiskFault.{DiskFault}
 use Rattle.disk_model.specs.declared.disk.DiskFault.TheVariants as faults
 use Rattle.segment_set.specs.declared.parts.Parts.{Parts}
+use Rattle.segment_set.specs.Fits.{IsAsBefore as ArePartsAsBefore}
 use Rattle.log_model.specs.plain.Admission.{Admission, Admitted, Repeats, Refused, Expiry, Expires, Nobody, Not_now, first_refusal, refused_if}
 use Rattle.host_core.specs.CoreState.{hosted}
 use Rattle.host_recovery.specs.declared.answers.Answer.{Answer}
@@ -71,7 +72,7 @@ KeepsState cells old new = (hosted cells new.core ≡ hosted cells old.core) × 
 -- it is as before, but for room
 pub record IsAsBefore {D M : Type 0} (cells : M → Cells) (old new : HostState D M) : Type 0 where
   pub disk : new.disk ≡ old.disk
-  pub parts : new.parts ≡ old.parts
+  pub parts : ArePartsAsBefore old.parts new.parts
   pub stopped : new.stopped ≡ old.stopped
   pub state : KeepsState cells old new
 

@@ -3,7 +3,7 @@ use Rattle.std.specs.Prelude.{◌≡◌, ◌≤◌, ◌⊎◌, ℕ, List, map, S
 use Rattle.disk_model.specs.declared.file_id.FileId.{FileId}
 use Rattle.disk_model.specs.Image.{Image, place}
 use Rattle.segment_files.specs.Parse.{Part}
-use Rattle.segment_files.specs.Folder.{folder, IsChoice}
+use Rattle.segment_files.specs.Folder.{AreParts, folder}
 use Rattle.log_model.specs.cleaning.Layout.{PartLayout, Layout}
 use Rattle.host_recovery.specs.Standing.{part_layout}
 
@@ -19,7 +19,8 @@ pub record IsGreatest (image : Image) (name : List ℕ) (greatest : ℕ) : Type 
 -- under this name an image has files that lie so
 pub record Lies (name : List ℕ) (image : Image) (layout : Layout) : Type 0 where
   pub parts : List Part
-  pub choice : IsChoice (folder name image) parts
+  pub last : ℕ
+  pub are : AreParts (folder name image) parts last
   pub parts_are : layout.parts ≡ map part_layout parts
   pub greatest : IsGreatest image name layout.greatest
 

@@ -7,12 +7,12 @@ use Rattle.disk_model.specs.Image.{Image}
 use Rattle.disk_model.specs.View.{View}
 use Rattle.segment_files.specs.Parse.{Part}
 use Rattle.segment_set.specs.declared.parts.Parts.{Parts}
-use Rattle.segment_set.specs.Fits.{Fits, IsHeld, last_of, log_of, parts_in}
+use Rattle.segment_set.specs.Fits.{Fits, IsAlone, IsHeld, last_of, parts_in}
 use Rattle.log_model.specs.plain.Admission.{Item, Admission, Admitted, Repeats, Refused, Expired, Expiry, Expires, Nobody, Not_now}
-use Rattle.log_model.specs.hosted.Hosted.{hosted_folded, hosted_stored}
+use Rattle.log_model.specs.hosted.Hosted.{hosted_folded}
 use Rattle.log_model.specs.cleaning.Layout.{Layout, PartLayout}
 use Rattle.host_core.specs.CoreState.{hosted}
-use Rattle.host_recovery.specs.Logs.{IsLog, StandsFor, hosted_form}
+use Rattle.host_recovery.specs.Logs.{AreOf, IsLog, StandsFor, hosted_form}
 use Rattle.host_recovery.specs.HostState.{HostState}
 
 -- an image stands for the log without the item or with it
@@ -31,31 +31,28 @@ StandsOrExpires d name items time (Expires session) image = StandsOrGains d name
 StandsOrExpires d name items time Nobody image = StandsFor (hosted_form d) name image items
 StandsOrExpires d name items time (Not_now why) image = StandsFor (hosted_form d) name image items
 
--- what the files of a host hold
-abbrev pub log_in : View → Parts → List Entry
-log_in v parts = log_of (parts_in v.reading parts)
-
 abbrev pub part_layout : Part → PartLayout
 part_layout p = record { base = p.id.base; last = p.last; present = map (λ (e : ℕ × Entry). e.0) p.entries; cut = p.cut; floor = p.floor; generation = p.id.generation; size = p.size; rewritten = p.rewritten }
 
--- and how they lie
+-- how the files of a host lie
 abbrev pub layout_in : View → Parts → Layout
 layout_in v parts = record { parts = map part_layout (parts_in v.reading parts); greatest = parts.greatest }
 
--- A host stands at a log: it runs, its files hold the log's stored form, so does whatever a crash leaves now, and its state is what
+-- A host stands at a log: it runs, its files hold what is left of the log, so does whatever a crash leaves now, and its state is what
 -- the log comes to.
 pub record StandsAt {D M : Type 0} (d : MachineDecision) (view : D → View) (cells : M → Cells) (h : HostState D M) (items : List Item) : Type 0 where
   pub runs : h.stopped ≡ false
   pub log : IsLog (hosted_form d) items
-  pub stored : log_in (view h.disk) h.parts ≡ hosted_stored d items
+  pub of : AreOf (hosted_form d) (parts_in (view h.disk).reading h.parts) items
   pub held : IsHeld (view h.disk) h.parts
   pub state : hosted cells h.core ≡ hosted_folded d items
 
 -- ---- what a host keeps
 
--- Where it runs, the disk fits what is remembered of the files, which have as many entries as the core took.
+-- Where it runs, the disk fits what is remembered of the files, no other one is listed, and their last index is that of the core.
 pub record IsKept {D M : Type 0} (tells : Bool) (view : D → View) (cells : M → Cells) (h : HostState D M) : Type 0 where
   pub size_first : 2 ≤ h.size
   pub size_last : h.size ≤ 65536
   pub last : h.stopped ≡ false → h.core.last ≡ last_of h.parts
   pub fits : h.stopped ≡ false → IsTrue tells → Fits (view h.disk) h.parts
+  pub alone : h.stopped ≡ false → IsTrue tells → IsAlone (view h.disk) h.parts

@@ -34,12 +34,11 @@ impl<D: Disk, M: Machine> Model for Host<D, M> {
 
     ghost coded = { host_code D.code (Prim.hlevel codes) (core_code M.code (Prim.hlevel codes)) };
 
-    ghost use Rattle.segment_set.specs.Fits.{without_room};
     ghost use Rattle.host_recovery.specs.Standing.{IsKept};
 
-    ghost view = { λ h. record { disk = h.disk; parts = without_room h.parts; core = h.core; size = h.size; stopped = h.stopped } };
+    ghost view = { λ h. record { disk = h.disk; parts = h.parts; core = h.core; size = h.size; stopped = h.stopped } };
 
-    ghost invariant = { λ h. IsKept D.tells D.view M.cells (record { disk = h.disk; parts = without_room h.parts; core = h.core; size = h.size; stopped = h.stopped }) };
+    ghost invariant = { λ h. IsKept D.tells D.view M.cells (record { disk = h.disk; parts = h.parts; core = h.core; size = h.size; stopped = h.stopped }) };
 }
 
 impl<D: Disk, M: Machine> Host<D, M> {

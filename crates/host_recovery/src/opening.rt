@@ -3,7 +3,7 @@ ghost use Rattle.std.specs.Prelude.{◌≡◌, ◌≤◌, ◌+◌, ℕ, List, []
 ghost use Rattle.disk_model.specs.View.{LeavesOnly};
 ghost use Rattle.disk_model.specs.Calls.{Looks};
 ghost use Rattle.segment_files.specs.Folder.{entries_of};
-ghost use Rattle.segment_set.specs.Fits.{Fits, last_of, parts_in};
+ghost use Rattle.segment_set.specs.Fits.{Fits, cut_by, last_of, parts_in};
 ghost use Rattle.segment_set.specs.Load.{HasOpenCause, Loads};
 ghost use Rattle.log_model.specs.plain.Admission.{Item};
 ghost use Rattle.log_model.specs.hosted.Hosted.{hosted_nothing, hosted_told};
@@ -24,7 +24,8 @@ use segment_set::{OpenError, Parts};
 use std::alloc::Global;
 use std::mem;
 
-/// Replays what these files hold, one entry after the other, each read from its place.
+/// Replays what these files hold, one entry after the other, each read from its place. No reply and no batch is kept up to the greatest
+/// cut of the files.
 fn replay_all<D: Disk, M: Machine>(
     alloc: Global,
     disk: &mut D,
@@ -33,26 +34,27 @@ fn replay_all<D: Disk, M: Machine>(
 ) -> Result<(), OpenError>
     requires fits { IsTrue D.tells → Fits (D.view disk.old) parts.now }
     requires fresh { core.old.last ≡ 0 }
-    ensures state { OnOk result (IsTrue D.tells → hosted M.cells core.new ≡ replay_from (hosted_told M.decides) 0 (hosted M.cells core.old) (entries_of (parts_in (D.view disk.old).reading parts.now))) }
+    ensures state { OnOk result (IsTrue D.tells → hosted M.cells core.new ≡ replay_from (hosted_told M.decides) (cut_by parts.now.sealed.items) (hosted M.cells core.old) (entries_of (parts_in (D.view disk.old).reading parts.now))) }
     ensures last { OnOk result (core.new.last ≡ last_of parts.now) }
     ensures confirmed { OnOk result (ConfirmsAcked core.old.sessions → ConfirmsAcked core.new.sessions) }
     ensures undamaged { (base generation at : ℕ) → IsErrOf result (OpenError.Damaged base generation at) → IsTrue D.tells → ⊥ }
     ensures looks { IsTrue D.tells → Looks (D.view disk.old) (D.view disk.new) }
     ensures cause { HasOpenCause (D.faults disk.old) (D.faults disk.new) result }
 {
+    let cut = parts.cut();
     let mut index = 0;
-    while index < parts.last() {
-        index += 1;
-        let found = match parts.read(alloc, disk, index) {
+    while let Some(next) = parts.next_present(index) {
+        let found = match parts.read(alloc, disk, next) {
             Ok(found) => found,
             Err(error) => return Err(error),
         };
         if let Some(entry) = found {
-            match core.replay(alloc, index, entry, 0) {
+            match core.replay(alloc, next, entry, cut) {
                 Ok(()) => {}
                 Err(_) => return Err(OpenError::NoMemory),
             }
         }
+        index = next;
     }
     Ok(())
 }
@@ -68,7 +70,7 @@ fn load<D: Disk, M: Machine>(
     requires unconfirmed { ConfirmsAcked core.old.sessions }
     ensures loads { Loads D.tells (D.view disk.old) (D.view disk.new) (D.faults disk.old) (D.faults disk.new)
         name.now result }
-    ensures state { IfOk result (λ parts. IsTrue D.tells → hosted M.cells core.new ≡ replayed (hosted_told M.decides) 0 (entries_of (parts_in (D.view disk.new).reading parts))) }
+    ensures state { IfOk result (λ parts. IsTrue D.tells → hosted M.cells core.new ≡ replayed (hosted_told M.decides) (cut_by parts.sealed.items) (entries_of (parts_in (D.view disk.new).reading parts))) }
     ensures last { IfOk result (λ parts. core.new.last ≡ last_of parts) }
     ensures confirmed { OnOk result (ConfirmsAcked core.new.sessions) }
 {

@@ -1,10 +1,11 @@
 // A host stores what is offered and who is due.
 ghost use Rattle.std.specs.Prelude.{◌≡◌, ◌<◌, ◌+◌, List, [], ◌∷◌, ◌++◌, false, true, None, IsTrue, IfOk, IfErr, OnOk};
-ghost use Rattle.host_types.specs.Limits.{last_limit};
+ghost use Rattle.host_types.specs.Limits.{index_limit};
 ghost use Rattle.host_types.specs.Ranges.{EntryFits, IsInRange};
 ghost use Rattle.disk_model.specs.View.{LeavesOnly};
 ghost use Rattle.segment_files.specs.Contents.{shut_frame_bytes};
-ghost use Rattle.segment_set.specs.Fits.{IsEmptyWhereNone, IsHeld, KeepsNames, StandsOrGains as FilesStandOrGain};
+ghost use Rattle.segment_set.specs.Fits.{IsEmptyWhereNone, IsHeld, KeepsNames, parts_in};
+ghost use Rattle.segment_set.specs.Growth.{HasOrGains, gained};
 ghost use Rattle.log_model.specs.plain.Admission.{Admitted, Item, Offered, Expired};
 ghost use Rattle.host_types.specs.declared.entry.Body.TheVariants as body;
 ghost use Rattle.log_model.specs.plain.Fitting.{ItemFits};
@@ -15,7 +16,7 @@ ghost use Rattle.log_model.specs.serving.Positions.{confirmed_after};
 ghost use Rattle.session_table.specs.Table.{confirmed_positions};
 ghost use Rattle.host_core.specs.Entering.{confirmed_by};
 ghost use Rattle.host_core.specs.CoreState.{hosted};
-ghost use Rattle.host_recovery.specs.Standing.{StandsAt, StandsOrExpires, StandsOrTakes, layout_in, log_in};
+ghost use Rattle.host_recovery.specs.Standing.{StandsAt, StandsOrExpires, StandsOrTakes, layout_in};
 ghost use Rattle.host_recovery.specs.Answers.{AfterError, HasHostCause, IsAnswer, IsExpiry, OnAnswer, IsStoreError, OnExpiry, admits_file, admits_stored, expiry_stored, refused_by};
 
 use crate::answers::{Answer, HostError, answer_to};
@@ -27,8 +28,8 @@ use machine::Machine;
 use segment_set::Parts;
 use std::alloc::Global;
 
-/// The greatest last index of a log, as long as a log is one file.
-const LAST_LIMIT: Index = 4294967295;
+/// The greatest index.
+const LAST_LIMIT: Index = 281474976710655;
 
 impl From<NoMemory> for HostError {
     ghost use Rattle.host_recovery.specs.declared.answers.HostError.TheVariants as error;
@@ -97,18 +98,18 @@ impl<D: Disk, M: Machine> Host<D, M> {
     /// moment leaves the log without it or with it; from an Ok on it is there. After a fault of the disk the host is stopped.
     fn store(&mut self, alloc: Global, entry: Entry) -> Result<(), HostError>
         requires runs { self.old.stopped ≡ false }
-        requires room { (hosted M.cells self.old.core).last < last_limit }
+        requires room { (hosted M.cells self.old.core).last < index_limit }
         requires file { admits_file self.old.parts ≡ Admitted }
         requires fits { EntryFits entry }
         requires range { IsInRange ((hosted M.cells self.old.core).last + 1) entry }
         ensures runs { OnOk result (self.new.stopped ≡ false) }
         ensures state { OnOk result (hosted M.cells self.new.core ≡ replay_entry (hosted_told M.decides) 0 (hosted M.cells self.old.core) ((hosted M.cells self.old.core).last + 1, entry)) }
         ensures confirmed { OnOk result (confirmed_positions self.new.core.sessions.beside ≡ confirmed_by ((hosted M.cells self.old.core).last + 1) entry.body (confirmed_positions self.old.core.sessions.beside)) }
-        ensures log { OnOk result (IsTrue D.tells → log_in (D.view self.new.disk) self.new.parts ≡ log_in (D.view self.old.disk) self.old.parts ++ entry ∷ []) }
+        ensures parts { OnOk result (IsTrue D.tells → parts_in (D.view self.new.disk).reading self.new.parts ≡ gained self.old.size self.old.parts.greatest (parts_in (D.view self.old.disk).reading self.old.parts) entry) }
         ensures layout { OnOk result (IsTrue D.tells → layout_in (D.view self.new.disk) self.new.parts ≡ with_entry self.old.size (layout_in (D.view self.old.disk) self.old.parts)) }
         ensures held { OnOk result (IsTrue D.tells → IsHeld (D.view self.old.disk) self.old.parts → IsHeld (D.view self.new.disk) self.new.parts) }
         ensures any_moment { IsTrue D.tells → IsHeld (D.view self.old.disk) self.old.parts
-            → LeavesOnly (D.view self.old.disk) (D.view self.new.disk) (FilesStandOrGain self.old.parts.name (log_in (D.view self.old.disk) self.old.parts) entry) }
+            → LeavesOnly (D.view self.old.disk) (D.view self.new.disk) (HasOrGains self.old.parts.name self.old.size self.old.parts.greatest (parts_in (D.view self.old.disk).reading self.old.parts) entry) }
         ensures empty { IsTrue D.tells → IsHeld (D.view self.old.disk) self.old.parts → IsEmptyWhereNone (D.view self.new.disk) self.old.parts.name }
         ensures others { IsTrue D.tells → KeepsNames (D.view self.old.disk) (D.view self.new.disk) self.old.parts.name }
         ensures error { IfErr result IsStoreError }
@@ -139,7 +140,10 @@ impl<D: Disk, M: Machine> Host<D, M> {
                 return Err(HostError::NoMemory);
             }
         };
-        match self.parts.append(&mut self.disk, &self.frame, self.size) {
+        match self
+            .parts
+            .append(alloc, &mut self.disk, &self.frame, self.size)
+        {
             Ok(()) => {
                 self.core.apply(index, entry, prepared);
                 Ok(())
