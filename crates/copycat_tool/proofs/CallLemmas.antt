@@ -15,8 +15,9 @@ use Rattle.host_types.specs.declared.entry.Event.{Event}
 use Rattle.host_types.specs.declared.entry.Offer.{Offer}
 use Rattle.host_types.specs.declared.entry.Refusal.{Refusal}
 use Rattle.host_types.specs.declared.entry.Refusal.TheVariants.{GenEnd}
-use Rattle.segment_files.specs.Folder.{folder, Stands}
-use Rattle.segment_set.specs.Fits.{IsEmptyWhereNone}
+use Rattle.segment_files.specs.Folder.{entries_of}
+use Rattle.segment_set.specs.Fits.{IsEmptyWhereNone, cut_of, floor_of}
+use Rattle.log_model.specs.cleaning.Cleaning.{Cleaned}
 use Rattle.log_model.specs.plain.Admission.{Item, Offered, Expired, Admission, Admitted, Repeats, Refused, admits, first_refusal, refused_if, Expiry, Expires, Nobody, Not_now, expires}
 use Rattle.log_model.specs.plain.Fitting.{ItemFits}
 use Rattle.log_model.specs.hosted.Hosted.{Hosted, hosted_admits, hosted_entry, hosted_expires, hosted_folded, hosted_told}
@@ -75,10 +76,21 @@ module _ (law : HostsArePlain catalog_decision) where
 
   pub plain_files : (name name' : List ℕ) (log : List Item) → IsLog plain_form log → name ≡ name' → (image : Image) → StandsFor (hosted_form catalog_decision) name image log → StandsFor plain_form name' image log
   plain_files name name' log is same image s =
-      subst (λ (n : List ℕ). StandsFor plain_form n image log) same (subst (λ (es : List Entry). Stands (folder name image) es) (as_model log is).same_entries s)
+      let m = as_model log is in
+      subst (λ (n : List ℕ). StandsFor plain_form n image log) same (record {
+        parts = s.parts;
+        are = s.are;
+        of = subst (λ (x : List Entry × ℕ). Cleaned (entries_of s.parts) x.0 x.1 (cut_of s.parts) (floor_of s.parts)) (λ i. (m.same_entries i, m.same_quiet i)) s.of;
+      })
 
   pub hosted_files : (name : List ℕ) (log : List Item) → IsLog plain_form log → (image : Image) → StandsFor plain_form name image log → StandsFor (hosted_form catalog_decision) name image log
-  hosted_files name log is image s = subst (λ (es : List Entry). Stands (folder name image) es) (sym (as_model log is).same_entries) s
+  hosted_files name log is image s =
+      let m = as_model log is in
+      record {
+        parts = s.parts;
+        are = s.are;
+        of = subst (λ (x : List Entry × ℕ). Cleaned (entries_of s.parts) x.0 x.1 (cut_of s.parts) (floor_of s.parts)) (λ i. (sym m.same_entries i, sym m.same_quiet i)) s.of;
+      }
 
   pub as_hosted : (log : List Item) → IsLog plain_form log → IsLog (hosted_form catalog_decision) log
   as_hosted log is = record { admitted = subst IsTrue (sym (law log).0) is.admitted; fits = is.fits }
@@ -333,9 +345,9 @@ module _ (law : HostsArePlain catalog_decision) where
       expiry_answered (Err errors.NoMemory) is same after stands layout positions moments = tt
       expiry_answered (Err errors.Disk) is same after stands layout positions moments = tt
 
-      cut_of : (ending : Ending) → (ending ≡ DiskFault) ⊎ (ending ≡ NoMemory) → IsUnsigned time → LogsAreSound → IsEmptyWhereNone (view new.disk) old.parts.name → (e : Expiry) → expiry run time ≡ e
+      cut_expiry : (ending : Ending) → (ending ≡ DiskFault) ⊎ (ending ≡ NoMemory) → IsUnsigned time → LogsAreSound → IsEmptyWhereNone (view new.disk) old.parts.name → (e : Expiry) → expiry run time ≡ e
           → LeavesOnly (view old.disk) (view new.disk) (StandsOrExpires catalog_decision old.parts.name run.log time e) → IsCut files (view old.disk) (view new.disk) run (change_of e time) ending
-      cut_of ending ending_is small sounds empty (Expires session) here moments =
+      cut_expiry ending ending_is small sounds empty (Expires session) here moments =
           let there : expires (folded run.log) time ≡ Expires session = expires_when run.layout (expires (folded run.log) time) session here in
           let fold = sounds catalog_decision run.log catalog_lawful logged.fits (as_hosted run.log logged).admitted in
           let past : AllByRecursion (IsSessionSound (hosted_folded catalog_decision run.log).last) (hosted_folded catalog_decision run.log).sessions = fold.sound.sessions_are in
@@ -345,8 +357,8 @@ module _ (law : HostsArePlain catalog_decision) where
           let top : (folded run.log).last ≤ index_limit = subst (λ (h : Hosted). h.last ≤ index_limit) model.same_fold fold.sound.last_in_range in
           cut_stored (Expired time session) ending ending_is empty
           (ap (is_expiry_of session) there ∙ nat_eq_equiv.refl session) (small, omega (arith, le, top)) moments
-      cut_of ending ending_is small sounds empty Nobody here moments = cut_still ending ending_is empty moments Nothing refl
-      cut_of ending ending_is small sounds empty (Not_now why) here moments = cut_still ending ending_is empty moments Nothing refl
+      cut_expiry ending ending_is small sounds empty Nobody here moments = cut_still ending ending_is empty moments Nothing refl
+      cut_expiry ending ending_is small sounds empty (Not_now why) here moments = cut_still ending ending_is empty moments Nothing refl
 
       pub expiry_cut : IsUnsigned time → LogsAreSound → IsEmptyWhereNone (view new.disk) old.parts.name
           → LeavesOnly (view old.disk) (view new.disk) (StandsOrExpires catalog_decision old.parts.name run.log time (expiry_stored host_expiry old.parts))
@@ -359,10 +371,10 @@ module _ (law : HostsArePlain catalog_decision) where
           go : (result : Result (Option (ℕ × ℕ)) HostError) → IfErr (expiry_told result) (IsCut files (view old.disk) (view new.disk) run (change_of (expiry run time) time))
           go (Ok None) = tt
           go (Ok (Some one)) = tt
-          go (Err errors.Stopped) = cut_of NoMemory (inr refl) small sounds empty (expiry run time) refl only
+          go (Err errors.Stopped) = cut_expiry NoMemory (inr refl) small sounds empty (expiry run time) refl only
           go (Err (errors.Refused why)) = tt
-          go (Err errors.NoMemory) = cut_of NoMemory (inr refl) small sounds empty (expiry run time) refl only
-          go (Err errors.Disk) = cut_of DiskFault (inl refl) small sounds empty (expiry run time) refl only
+          go (Err errors.NoMemory) = cut_expiry NoMemory (inr refl) small sounds empty (expiry run time) refl only
+          go (Err errors.Disk) = cut_expiry DiskFault (inl refl) small sounds empty (expiry run time) refl only
 
     -- ---- the log is opened again
 

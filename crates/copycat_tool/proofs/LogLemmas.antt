@@ -3,7 +3,7 @@ use Rattle.std.proofs.Common.{◌≡◌, ℕ, suc, zero, ◌+◌, ◌≤◌, ◌
 use Rattle.std.proofs.lemmas.Bool.{and_parts}
 use Rattle.std.specs.Cmp.{nat_eq_equiv}
 use Rattle.std.specs.List.{AllByRecursion, filter, find}
-use Rattle.host_types.specs.Limits.{last_limit}
+use Rattle.host_types.specs.Limits.{index_limit}
 use Rattle.host_types.specs.declared.entry.Event.{Event}
 use Rattle.host_types.specs.declared.entry.Refusal.TheVariants.{Time, LogEnd}
 use Rattle.log_model.specs.plain.Plain.{Session, State, nothing_yet}
@@ -101,7 +101,7 @@ due_session last now sessions time id e = go (nat_lt time now) (due_in time sess
     go : (b : Bool) (o : Option ℕ) → due_in time sessions ≡ o → cond b (Not_now (Time now)) (expires_due last o) ≡ Expires id → due_in time sessions ≡ Some id
     go true o is e = absurd (cc)
     go false None is e = absurd (cc)
-    go false (Some x) is e = at (nat_le last_limit last) e
+    go false (Some x) is e = at (nat_le index_limit last) e
       where
         at : (b : Bool) → cond b (Not_now LogEnd) (Expires x) ≡ Expires id → due_in time sessions ≡ Some id
         at true e = absurd (cc)

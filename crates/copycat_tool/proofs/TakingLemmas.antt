@@ -19,9 +19,9 @@ use Rattle.session_table.specs.Table.{Beside, IsOpen, confirmed_of, confirmed_po
 use Rattle.host_core.specs.CoreState.{CoreState}
 use Rattle.host_recovery.specs.HostState.{HostState}
 use Rattle.segment_set.specs.declared.parts.Parts.{Parts as FileParts}
-use Rattle.segment_set.specs.Fits.{IsHeld}
-use Rattle.host_recovery.specs.Logs.{IsLog, StandsFor, plain_form}
-use Rattle.host_recovery.specs.Standing.{layout_in, log_in}
+use Rattle.segment_set.specs.Fits.{IsHeld, parts_in}
+use Rattle.host_recovery.specs.Logs.{AreOf, IsLog, StandsFor, hosted_form, plain_form}
+use Rattle.host_recovery.specs.Standing.{layout_in}
 use Rattle.resource_catalog.specs.Catalog.{catalog_decision}
 use Rattle.resource_catalog.specs.Parts.{Parts}
 use Rattle.copycat_tool.specs.Report.{Run, Act, Confirms, changed, offers}
@@ -71,7 +71,7 @@ module _ {D : Type 0} (view : D → View) (files : Files) where
     stands = record {
       runs = still.stopped ∙ at.stands.runs;
       log = at.stands.log;
-      stored = (λ i. log_in (view (still.disk i)) (still.parts i)) ∙ at.stands.stored;
+      of = subst (λ (p : D × FileParts). AreOf (hosted_form catalog_decision) (parts_in (view p.0).reading p.1) run.log) (λ i. (sym still.disk i, sym still.parts i)) at.stands.of;
       held = subst (λ (p : D × FileParts). IsHeld (view p.0) p.1) (λ i. (sym still.disk i, sym still.parts i)) at.stands.held;
       state = confirmed.state ∙ at.stands.state;
     };
