@@ -1,7 +1,7 @@
 // Which files of a folder are the parts of its log.
 ghost use Rattle.std.specs.Prelude.{◌≡◌, ◌≤◌, ◌+◌, ◌-◌, ◌*◌, length, All};
 ghost use Rattle.disk_model.specs.Image.{IsBelow};
-ghost use Rattle.segment_files.specs.Contents.{AreBelow};
+ghost use Rattle.segment_files.specs.Contents.{AreBelow, last_read};
 ghost use Rattle.segment_set.specs.declared.opened.Opened.{Opened};
 ghost use Rattle.segment_set.specs.Sifting.{Rise};
 
@@ -93,6 +93,7 @@ fn offsets_of(rt: &impl Abort, alloc: Global, base: u64, count: u64) -> Offsets
     requires first { 1 ≤ base }
     ensures count { length result.items ≡ count }
     ensures below { AreBelow base (base - 1 + count) result.items (64 + 10 * count) }
+    ensures ended { last_read base result.items ≡ base - 1 + count }
 {
     let mut offsets = Offsets::new(alloc);
     for k in 0..count {

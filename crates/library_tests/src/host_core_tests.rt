@@ -177,7 +177,8 @@ fn replay_last<M: Machine>(rt: &impl Abort, core: &mut Core<M>, alloc: Global)
         time: 5,
         body: Body::Tick,
     };
-    core.replay(alloc, 4294967295, tick, 0).expect(rt, "memory");
+    core.replay(alloc, 281474976710655, tick, 0)
+        .expect(rt, "memory");
 }
 
 #[test]

@@ -26,6 +26,8 @@ mod host_core_batch_tests;
 #[cfg(test)]
 mod host_core_expiry_tests;
 #[cfg(test)]
+mod host_core_marks_tests;
+#[cfg(test)]
 mod host_core_tests;
 #[cfg(test)]
 mod host_types_tests;
@@ -36,9 +38,13 @@ mod machine_tests;
 #[cfg(test)]
 mod machines;
 #[cfg(test)]
+mod many_files_tests;
+#[cfg(test)]
 mod offset_index_tests;
 #[cfg(test)]
 mod plain_cells;
+#[cfg(test)]
+mod released_marks_tests;
 #[cfg(test)]
 mod resource_catalog_tests;
 #[cfg(test)]
