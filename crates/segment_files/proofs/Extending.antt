@@ -1,12 +1,14 @@
--- A file gets one entry more: those before it stand where they stood, and it stands behind the gate and the length of its frame.
-use Rattle.std.proofs.Common.{◌≡◌, ℕ, ◌+◌, ◌-◌, ◌≤◌, List, [], ◌∷◌, ◌++◌, length, take, drop, sym, ap, subst, ◌∙◌, arith, append_assoc, length-append, length-take}
-use Rattle.std.proofs.lemmas.List.{append-nil, drop_at, drop-drop, drop-take, take-append-le, take-take, take_all}
-use Rattle.host_types.specs.declared.entry.Entry.{Entry}
+-- A file gets a frame more: the entries before it stand where they stood, and its own stand behind its gate and its length.
+use Rattle.std.proofs.Common.{◌≡◌, ℕ, ◌+◌, ◌-◌, ◌≤◌, List, [], ◌∷◌, ◌++◌, length, map, take, drop, refl, sym, ap, subst, ◌∙◌, arith, append_assoc, length-append, length-take}
+use Rattle.std.specs.List.{enumerate_from}
+use Rattle.std.proofs.lemmas.List.{drop_at, drop-drop, drop-take, take-append-le, take-take, take_all}
 use Rattle.disk_model.specs.Image.{written}
-use Rattle.entry_codec.specs.Spelled.{EntryFits, IsInRange, IsSpelledBy, spelled}
+use Rattle.entry_codec.specs.Spelled.{IsSpelledBy, spelled}
+use Rattle.entry_codec.proofs.Bounds.{least_size}
 use Rattle.segment_files.specs.Parse.{Numbered}
-use Rattle.segment_files.specs.Contents.{AreAt, HasAt, Offset_list, body_bytes, frame_bytes}
-use Rattle.segment_files.proofs.Placing.{at_join, at_one, at_to}
+use Rattle.segment_files.specs.Contents.{AreAt, HasAt, Offset_list, body_bytes, frame_bytes, places_from, shut_frame_bytes}
+use Rattle.segment_files.proofs.Following.{AreNext, length-frame_bytes}
+use Rattle.segment_files.proofs.Placing.{at_behind, at_from, at_join, at_one, at_to}
 
 -- what lies before a gate is the same in both files
 part_same : (b : List ℕ) (gate p size : ℕ) → p + size ≤ gate → take size (drop p (take gate b)) ≡ take size (drop p b)
@@ -64,29 +66,37 @@ module _ (b : List ℕ) (gate : ℕ) (within : gate ≤ length b) (frame : List 
   long : gate + length frame ≤ length new
   long = omega (arith, ap length regroup, length-append (take gate b) (frame ++ drop (gate + length frame) b), length-append frame (drop (gate + length frame) b), front_long)
 
--- a frame's entry, behind its gate and its length
-entry_at : (index : ℕ) (entry : Entry) (rest : List ℕ) → drop 5 (frame_bytes ((index, entry) ∷ []) ++ rest) ≡ spelled index entry ++ rest
-entry_at index entry rest = ap (λ (l : List ℕ). l ++ rest) (append-nil (spelled index entry))
+-- Entries whose bytes stand one behind the other, from a place behind a gate on: each stands there at its place.
+pub at_run : (base : ℕ) (c : List ℕ) (gate at last offset : ℕ) (es : Numbered) → HasAt c (gate + at) (body_bytes es) → AreNext last es → last + 1 ≡ base + offset
+    → AreAt base c (gate + at) es (enumerate_from offset (map (λ (p : ℕ). gate + p) (places_from at es))) (gate + at + length (body_bytes es))
+at_run base c gate at last offset [] has are is = omega arith
+at_run base c gate at last offset (e ∷ es) has (next, may, rest) is =
+    let bytes : List ℕ = spelled e.0 e.1 in
+    let size : ℕ = length bytes in
+    let behind : Offset_list = enumerate_from (offset + 1) (map (λ (p : ℕ). gate + p) (places_from (at + size) es)) in
+    let here : HasAt c (gate + at) bytes = (body_bytes es ++ has.0, has.1 ∙ append_assoc bytes (body_bytes es) has.0) in
+    let there : HasAt c (gate + (at + size)) (body_bytes es) = subst (λ (k : ℕ). HasAt c k (body_bytes es)) {x = gate + at + size} {y = gate + (at + size)} (omega arith)
+    (subst (HasAt c (gate + at + size)) (drop_at bytes (body_bytes es) size refl) (at_behind c (bytes ++ body_bytes es) (gate + at) size has (omega (arith, length-append bytes (body_bytes es))))) in
+    let one = at_one base c bytes (gate + at) size e.0 offset e.1 here (omega arith) (omega (arith, least_size e.0 e.1 may.1)) (omega (arith, next, is))
+    (record { exact = take_all size bytes (omega arith); range = may.0; fits = may.1 }) in
+    let more = at_run base c gate (at + size) e.0 (offset + 1) es there rest (omega (arith, next, is)) in
+    let end : ℕ = gate + (at + size) + length (body_bytes es) in
+    at_join base c (gate + at) (gate + at + size) (gate + at + length (body_bytes (e ∷ es))) (e ∷ []) es ((offset, gate + at) ∷ []) behind one
+    (at_to base c (gate + at + size) end (gate + at + length (body_bytes (e ∷ es))) es behind (omega (arith, length-append bytes (body_bytes es)))
+    (at_from base c (gate + at + size) (gate + (at + size)) end es behind (omega arith) more))
 
-pub stands_more : (base : ℕ) (b : List ℕ) (gate : ℕ) (es : Numbered) (os : Offset_list) (index offset : ℕ) (entry : Entry) → gate ≤ length b → IsInRange index entry → EntryFits entry → 1 ≤ length (spelled index entry) → index ≡ base + offset
+-- A frame with entries that come next is appended: those before it stand where they stood, and its own stand behind its gate.
+pub stands_more : (base : ℕ) (b : List ℕ) (gate : ℕ) (es : Numbered) (os : Offset_list) (last offset : ℕ) (fs : Numbered) → gate ≤ length b → AreNext last fs → last + 1 ≡ base + offset
     → AreAt base b 64 es os gate
-    → AreAt base (written b gate (frame_bytes ((index, entry) ∷ []) ++ 0 ∷ [])) 64 (es ++ (index, entry) ∷ []) (os ++ (offset, gate + 5) ∷ []) (gate + length (frame_bytes ((index, entry) ∷ [])))
-stands_more base b gate es os index offset entry within range fits some is at =
-    let frame : List ℕ = frame_bytes ((index, entry) ∷ []) ++ 0 ∷ [] in
+    → AreAt base (written b gate (shut_frame_bytes fs)) 64 (es ++ fs) (os ++ enumerate_from offset (map (λ (p : ℕ). gate + p) (places_from 5 fs))) (gate + length (frame_bytes fs))
+stands_more base b gate es os last offset fs within are is at =
+    let frame : List ℕ = shut_frame_bytes fs in
     let c = written b gate frame in
-    let size = length (spelled index entry) in
+    let ps : Offset_list = enumerate_from offset (map (λ (p : ℕ). gate + p) (places_from 5 fs)) in
     let rest = drop (gate + length frame) b in
-    let has : HasAt c (gate + 5) (spelled index entry) = (
-      0 ∷ rest,
-      sym (drop-drop 5 gate c)
-          ∙ ap (drop 5) (behind_front b gate within frame ∙ append_assoc (frame_bytes ((index, entry) ∷ [])) (0 ∷ []) rest)
-          ∙ entry_at index entry (0 ∷ rest),
-    ) in
-    let body : length (body_bytes ((index, entry) ∷ [])) ≡ size = ap length (append-nil (spelled index entry)) in
-    let reach : length frame ≡ length (frame_bytes ((index, entry) ∷ [])) + 1 = length-append (frame_bytes ((index, entry) ∷ [])) (0 ∷ []) in
+    let has : HasAt c (gate + 5) (body_bytes fs) = (0 ∷ rest, sym (drop-drop 5 gate c) ∙ ap (drop 5) (behind_front b gate within frame ∙ append_assoc (frame_bytes fs) (0 ∷ []) rest)) in
+    let reach : length frame ≡ length (frame_bytes fs) + 1 = length-append (frame_bytes fs) (0 ∷ []) in
     let all = long b gate within frame in
-    let one = at_one base c (spelled index entry) (gate + 5) size index offset entry has (omega arith) some is
-    (record { exact = take_all size (spelled index entry) (omega arith); range = range; fits = fits }) in
-    at_join base c 64 (gate + 5) (gate + length (frame_bytes ((index, entry) ∷ []))) es ((index, entry) ∷ []) os ((offset, gate + 5) ∷ [])
+    at_join base c 64 (gate + 5) (gate + length (frame_bytes fs)) es fs os ps
     (at_to base c 64 gate (gate + 5) es os (omega arith) (at_same base b c gate (front_same b gate within frame) (omega (arith, all)) 64 gate es os (omega arith) at))
-    (at_to base c (gate + 5) (gate + 5 + size) (gate + length (frame_bytes ((index, entry) ∷ []))) ((index, entry) ∷ []) ((offset, gate + 5) ∷ []) (omega (arith, body)) one)
+    (at_to base c (gate + 5) (gate + 5 + length (body_bytes fs)) (gate + length (frame_bytes fs)) fs ps (omega (arith, length-frame_bytes fs)) (at_run base c gate 5 last offset fs has are is))

@@ -1,6 +1,6 @@
 -- What the bytes of a frame and of a descriptor are read as.
-use Rattle.std.proofs.Common.{◌≡◌, ℕ, ◌+◌, ◌-◌, ◌≤◌, Bool, true, false, not, ◌&&◌, nat_eq, nat_le, List, [], ◌∷◌, ◌++◌, length, drop, None, refl, ap, ◌∙◌, arith, if◌then◌else◌, append_assoc, length-append}
-use Rattle.std.proofs.lemmas.List.{append-nil, drop_all, take_all, take-append-le}
+use Rattle.std.proofs.Common.{◌≡◌, ℕ, zero, suc, ◌+◌, ◌-◌, ◌≤◌, Bool, true, false, not, ◌&&◌, nat_eq, nat_le, List, [], ◌∷◌, ◌++◌, length, drop, None, refl, ap, ◌∙◌, arith, if◌then◌else◌, append_assoc, length-append}
+use Rattle.std.proofs.lemmas.List.{drop_at, take_all, take-append-le}
 use Rattle.std.specs.Int.{w32, to_be_bytes}
 use Rattle.std.proofs.lemmas.Bool.{and_from, and_right, eq-eqb, le-leb}
 use Rattle.std.proofs.lemmas.Nat.{from_be_bytes-to_be_bytes_4, from_be_bytes-to_be_bytes_8}
@@ -11,9 +11,12 @@ use Rattle.host_types.specs.Limits.{index_limit}
 use Rattle.host_types.specs.declared.entry.Entry.{Entry}
 use Rattle.entry_codec.specs.Spelled.{spelled}
 use Rattle.entry_codec.specs.Reading.{Spelling, Spells, spelling}
+use Rattle.entry_codec.proofs.Bounds.{least_size}
+use Rattle.entry_codec.proofs.Entries.{spelled_again}
 use Rattle.segment_files.specs.Numbers.{One, Four, Eight, number_at}
-use Rattle.segment_files.specs.Parse.{Numbered, Holds, Breaks, with_entry, is_misplaced, spelled_first, body, Framed, Whole, frame, frame_room, is_next, mark, parse, Appended, part_of, descriptor_fields, fields_by, first_wrong, last_place, number_or_zero}
-use Rattle.segment_files.specs.Contents.{appended_descriptor, descriptor_bytes, body_bytes, frame_bytes}
+use Rattle.segment_files.specs.Parse.{Numbered, Holds, Breaks, with_entry, is_misplaced, spelled_first, body, body_limit, Framed, Whole, frame, frame_room, is_next, mark, parse, Appended, part_of, descriptor_fields, fields_by, first_wrong, last_place, number_or_zero}
+use Rattle.segment_files.specs.Contents.{MayStandAt, appended_descriptor, descriptor_bytes, body_bytes, frame_bytes}
+use Rattle.segment_files.proofs.Following.{AreNext, body_least, body_most}
 use Rattle.segment_files.proofs.Descriptors.{field_exact, field_right, none_wrong}
 use Rattle.segment_files.proofs.Indexes.{index_read}
 use Rattle.segment_files.proofs.Bodies.{body_more, body_end}
@@ -21,75 +24,74 @@ use Rattle.segment_files.proofs.Framing.{form, form_whole, frame_form, body_in, 
 use Rattle.segment_files.proofs.Scanning.{good_head}
 use Rattle.segment_files.proofs.Walks.{walk_shut}
 
--- A FRAME with one entry
+-- A FRAME of entries that come next
 
--- what the entry has to be, that it is read back behind this index
-pub record Follows (before index : ℕ) (entry : Entry) : Type 0 where
-  pub next : index ≡ before + 1
-  pub low : index ≤ index_limit
-  pub spells : spelling (spelled index entry) ≡ Spells index entry (length (spelled index entry))
-  pub least : 17 ≤ length (spelled index entry)
-  pub most : length (spelled index entry) ≤ 131072
-
-module _ (before index : ℕ) (entry : Entry) (f : Follows before index entry) where
+-- the first of them is read behind the index before it, whatever stands behind it
+module _ (before : ℕ) (e : ℕ × Entry) (next : e.0 ≡ before + 1) (may : MayStandAt e.0 e.1) (rest : List ℕ) where
   abbrev bytes : List ℕ
-  bytes = spelled index entry
+  bytes = spelled e.0 e.1 ++ rest
 
-  abbrev one : Numbered
-  one = (index, entry) ∷ []
-
-  body_is : body_bytes one ≡ bytes
-  body_is = append-nil bytes
-
-  -- its length behind its gate
   abbrev long : ℕ
-  long = 4 + length bytes
+  long = length (spelled e.0 e.1)
 
-  pub length-one_frame : length (frame_bytes one) ≡ 1 + long
-  length-one_frame = omega (arith, ap length body_is)
+  spells : spelling bytes ≡ Spells e.0 e.1 (length (spelled e.0 e.1))
+  spells = spelled_again e.0 e.1 rest may.0 may.1
 
-  fit : is_next before index ≡ true
-  fit = and_from (nat_eq index (before + 1)) (nat_le index index_limit) (eq-eqb index (before + 1) f.next) (le-leb index index_limit f.low)
+  fit : is_next before e.0 ≡ true
+  fit = and_from (nat_eq e.0 (before + 1)) (nat_le e.0 index_limit) (eq-eqb e.0 (before + 1) next) (let within = may.0.at.1 in le-leb e.0 index_limit within)
 
   placed : is_misplaced is_next before bytes ≡ false
   placed =
-      ap (λ (k : ℕ). nat_le 8 (length bytes) && not (is_next before k)) (index_read bytes index entry (length bytes) f.spells).is
+      ap (λ (k : ℕ). nat_le 8 (length bytes) && not (is_next before k)) (index_read bytes e.0 e.1 long spells).is
       ∙ ap (λ (t : Bool). nat_le 8 (length bytes) && not t) fit
       ∙ and_right (nat_le 8 (length bytes)) false refl
 
-  body_read : body is_next frame_room before bytes ≡ Holds one
-  body_read =
-      body_more is_next 63 before bytes (let least = f.least in omega arith)
-      ∙ ap (λ (t : Bool). if t then Breaks 0 else spelled_first (spelling bytes) (λ index size. body is_next 63 index (drop size bytes))) placed
-      ∙ ap (λ (s : Spelling). spelled_first s (λ index size. body is_next 63 index (drop size bytes))) f.spells
-      ∙ ap (λ (l : List ℕ). with_entry index entry (length bytes) (body is_next 63 index l)) (drop_all (length bytes) bytes (omega arith))
-      ∙ ap (with_entry index entry (length bytes)) (body_end is_next 63 index)
+  first_read : (room : ℕ) → body is_next (suc room) before (spelled e.0 e.1 ++ rest) ≡ with_entry e.0 e.1 (length (spelled e.0 e.1)) (body is_next room e.0 rest)
+  first_read room =
+      body_more is_next room before bytes (omega (arith, length-append (spelled e.0 e.1) rest, least_size e.0 e.1 may.1))
+      ∙ ap (λ (t : Bool). if t then Breaks 0 else spelled_first (spelling bytes) (λ index size. body is_next room index (drop size bytes))) placed
+      ∙ ap (λ (s : Spelling). spelled_first s (λ index size. body is_next room index (drop size bytes))) spells
+      ∙ ap (λ (l : List ℕ). with_entry e.0 e.1 long (body is_next room e.0 l)) (drop_at (spelled e.0 e.1) rest long refl)
+
+-- all of them
+body_read : (room before : ℕ) (es : Numbered) → length es ≤ room → AreNext before es → body is_next room before (body_bytes es) ≡ Holds es
+body_read room before [] few are = body_end is_next room before
+body_read zero before (e ∷ es) few are = absurd (omega (arith, few))
+body_read (suc room) before (e ∷ es) few (next, may, rest) =
+    first_read before e next may (body_bytes es) room
+    ∙ ap (with_entry e.0 e.1 (length (spelled e.0 e.1))) (body_read room e.0 es (omega (arith, few)) rest)
+
+module _ (before : ℕ) (es : Numbered) (are : AreNext before es) (some : 1 ≤ length es) (few : length es ≤ frame_room) where
+  abbrev held : List ℕ
+  held = body_bytes es
+
+  least_body : 17 ≤ length (body_bytes es)
+  least_body = omega (arith, body_least before es are, some)
+
+  most_body : length (body_bytes es) ≤ body_limit
+  most_body = omega (arith, body_most before es are, few)
 
   module _ (rest : List ℕ) where
     abbrev behind : List ℕ
-    behind = to_be_bytes w32 (length bytes) ++ bytes ++ rest
+    behind = to_be_bytes w32 (length held) ++ held ++ rest
 
-    behind_is : drop 1 (frame_bytes one) ++ rest ≡ behind
-    behind_is =
-        ap (λ (l : List ℕ). (to_be_bytes w32 (length l) ++ l) ++ rest) body_is
-        ∙ append_assoc (to_be_bytes w32 (length bytes)) bytes rest
+    behind_is : drop 1 (frame_bytes es) ++ rest ≡ behind
+    behind_is = append_assoc (to_be_bytes w32 (length held)) held rest
 
-    size_read : number_at Four 0 behind ≡ length bytes
+    size_read : number_at Four 0 behind ≡ length held
     unfolding number_at
-    size_read = from_be_bytes-to_be_bytes_4 (length bytes) (let most = f.most in omega arith)
+    size_read = from_be_bytes-to_be_bytes_4 (length held) (omega (arith, most_body))
 
     -- it is read back, whatever stands behind it
-    pub frame_read : frame is_next frame_room before (drop 1 (frame_bytes one) ++ rest) ≡ Framed one long
+    pub frame_read : frame is_next frame_room before (drop 1 (frame_bytes es) ++ rest) ≡ Framed es (4 + length (body_bytes es))
     frame_read =
-        let most = f.most in
-        let least = f.least in
-        let there : 4 + length bytes ≤ length behind = omega (arith, length-append bytes rest) in
+        let there : 4 + length held ≤ length behind = omega (arith, length-append held rest) in
         ap (frame is_next frame_room before) behind_is
         ∙ frame_form is_next frame_room before behind
         ∙ ap (λ (k : ℕ). form k (length behind) (body_in is_next frame_room before k behind)) size_read
-        ∙ ap (λ (l : List ℕ). form (length bytes) (length behind) (body is_next frame_room before l)) (take-append-le (length bytes) bytes rest (omega arith) ∙ take_all (length bytes) bytes (omega arith))
-        ∙ ap (form (length bytes) (length behind)) body_read
-        ∙ form_whole (length bytes) (length behind) one there (size_fits (length bytes) least (omega (arith, most)))
+        ∙ ap (λ (l : List ℕ). form (length held) (length behind) (body is_next frame_room before l)) (take-append-le (length held) held rest (omega arith) ∙ take_all (length held) held (omega arith))
+        ∙ ap (form (length held) (length behind)) (body_read frame_room before es few are)
+        ∙ form_whole (length held) (length behind) es there (size_fits (length held) least_body most_body)
 
 -- A DESCRIPTOR
 

@@ -17,6 +17,7 @@ pub mod Bodies
 pub mod Looking
 pub mod Scanning
 pub mod Wholes
+pub mod Following
 pub mod FrameLemmas
 pub mod Examples
 pub mod Unlisted
