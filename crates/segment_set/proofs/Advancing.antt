@@ -1,15 +1,14 @@
--- A log that has a tail gets the next entry.
-use Rattle.std.proofs.Common.{◌≡◌, ◌⊎◌, inl, inr, ⊎_elim, ℕ, ◌+◌, ◌-◌, ◌≤◌, ◌<◌, Bool, true, false, not, if◌then◌else◌, List, [], ◌∷◌, ◌++◌, length, Option, Some, None, Result, Ok, refl, sym, ap, subst, ◌∙◌, arith, Contains}
+-- A log that has a tail gets the next entries.
+use Rattle.std.proofs.Common.{◌≡◌, inl, inr, ⊎_elim, ℕ, ◌+◌, ◌≤◌, Bool, false, if◌then◌else◌, List, [], ◌∷◌, ◌++◌, length, Option, Some, sym, ap, subst, ◌∙◌, Contains}
 use Rattle.std.proofs.lemmas.List.{append-nil}
 use Rattle.std.proofs.lemmas.List.Elements.{Contains-append_left, Contains-push, Contains-push_cases}
 use Rattle.host_types.specs.declared.entry.Entry.{Entry}
 use Rattle.disk_model.specs.declared.file_id.FileId.{FileId}
-use Rattle.disk_model.specs.Image.{Image, Place, place}
+use Rattle.disk_model.specs.Image.{Place, place}
 use Rattle.disk_model.specs.View.{View, IsListed, IsSound, LeavesOnly}
 use Rattle.disk_model.proofs.Moments.{has_now, weaker}
 use Rattle.disk_model.proofs.Places.{own}
-use Rattle.segment_files.specs.declared.descriptor.Descriptor.{Descriptor}
-use Rattle.segment_files.specs.Contents.{Offset_list, Shows, StandAt, appended_descriptor, descriptor_of}
+use Rattle.segment_files.specs.Contents.{Offset_list, StandAt, appended_descriptor, descriptor_of}
 use Rattle.segment_files.specs.Files.{IsAtGate, KeepsOthers}
 use Rattle.segment_files.specs.Parse.{Found, Numbered, Part}
 use Rattle.segment_files.specs.Folder.{folder, found, EachHas, IsChoice}
@@ -17,13 +16,13 @@ use Rattle.segment_set.specs.declared.opened.Opened.{Opened}
 use Rattle.segment_set.specs.declared.tail.Tail.{Tail}
 use Rattle.segment_set.specs.declared.parts.Parts.{Parts}
 use Rattle.segment_set.specs.Advance.{Advances, Lengthens, Seals, noted}
-use Rattle.segment_set.specs.Growth.{AreApart, HasOrGains, HasOrGrows, IsFrameFor, begun, frame_size, gained, grown, with_entry}
-use Rattle.segment_set.specs.Fits.{ArePlaced, Fits, HasFile, IsAlone, IsEmptyWhereNone, IsFileAt, IsHeld, IsOpenIn, IsTailOf, KeepsNames, TailIs, last_of, part_list, parts_in, parts_of, tail_parts}
+use Rattle.segment_set.specs.Growth.{AreApart, HasOrGains, HasOrGrows, frame_size, grown, numbered}
+use Rattle.segment_set.specs.Fits.{ArePlaced, Fits, HasFile, IsAlone, IsFileAt, IsHeld, IsOpenIn, IsTailOf, KeepsNames, TailIs, last_of, part_list, parts_in, parts_of, tail_parts}
 use Rattle.segment_set.specs.Joined.{last_index_of, last_of_files}
 use Rattle.segment_set.proofs.Images.{bytes_of, kept_at}
 use Rattle.segment_set.proofs.Joining.{last_more}
 use Rattle.segment_set.proofs.Known.{file_stays, listed_before, open_stays, sealed_from, sealed_parts, tail_fits, tail_has_room, tail_id, tail_listed, with_tail}
-use Rattle.segment_set.proofs.PartLists.{begun_with_room, gained_with_room, parts_append, parts_same}
+use Rattle.segment_set.proofs.PartLists.{gained_with_room, parts_append, parts_same}
 
 -- what is kept of other names, where one file of this name changes
 pub keeps_names : (v w : View) (name : List ℕ) (id : FileId) → KeepsOthers v w (place name id) → KeepsNames v w name
@@ -36,8 +35,8 @@ keeps_names v w name id keeps = record {
     apart q ne is = ne (ap (λ (p : Place). p.name) is)
 
 -- the last index now
-pub advanced_last : (old new : Parts) (tail : Tail) (gate : ℕ) → Advances old new tail gate → last_of new ≡ tail.last + 1
-advanced_last old new tail gate a = ⊎_elim
+pub advanced_last : (old new : Parts) (tail : Tail) (gate : ℕ) (places : List ℕ) → Advances old new tail gate places → last_of new ≡ tail.last + length places
+advanced_last old new tail gate places a = ⊎_elim
     (λ l. ap (λ (o : Option Tail). last_index_of o new.sealed.items) l.is ∙ l.last)
     (λ s. ap (λ (o : Option Tail). last_index_of o new.sealed.items) s.none ∙ ap last_of_files s.sealed ∙ last_more old.sealed.items s.one ∙ s.last)
     a.either
@@ -60,14 +59,14 @@ module _ (v : View) (old : Parts) (fits : Fits v old) (tail : Tail) (some : old.
   held_at held = subst (EachHas v old.name) parts_are held
 
   -- while a frame is pushed
-  pub left_pushing : (w : View) (size : ℕ) (entry : Entry)
-      → LeavesOnly v w (HasOrGrows old.name (sealed_parts v old fits) (tail_fits v old fits tail some).part (((tail_fits v old fits tail some).part.last + 1, entry) ∷ []) (frame_size ((tail_fits v old fits tail some).part.last + 1) entry))
-      → LeavesOnly v w (HasOrGains old.name size old.greatest (parts_in v.reading old) entry)
-  left_pushing w size entry only =
-      subst (λ (l : List Part). LeavesOnly v w (HasOrGains old.name size old.greatest l entry)) (sym parts_are)
-      (weaker v w (HasOrGrows old.name front part ((part.last + 1, entry) ∷ []) (frame_size (part.last + 1) entry)) (HasOrGains old.name size old.greatest (front ++ part ∷ []) entry) only
+  pub left_pushing : (w : View) (size : ℕ) (entries : List Entry)
+      → LeavesOnly v w (HasOrGrows old.name (sealed_parts v old fits) (tail_fits v old fits tail some).part (numbered (tail_fits v old fits tail some).part.last entries) (frame_size (numbered (tail_fits v old fits tail some).part.last entries)))
+      → LeavesOnly v w (HasOrGains old.name size old.greatest (parts_in v.reading old) entries)
+  left_pushing w size entries only =
+      subst (λ (l : List Part). LeavesOnly v w (HasOrGains old.name size old.greatest l entries)) (sym parts_are)
+      (weaker v w (HasOrGrows old.name front part (numbered part.last entries) (frame_size (numbered part.last entries))) (HasOrGains old.name size old.greatest (front ++ part ∷ []) entries) only
       (λ c has. ⊎_elim (λ same. inl same)
-      (λ more. inr (inr (subst (IsChoice (folder old.name c)) (sym (gained_with_room size old.greatest front part entry (tail_has_room v old fits tail some))) more)))
+      (λ more. inr (inr (subst (IsChoice (folder old.name c)) (sym (gained_with_room size old.greatest front part entries (tail_has_room v old fits tail some))) more)))
       has))
 
   -- it stays listed
@@ -86,18 +85,18 @@ module _ (v : View) (old : Parts) (fits : Fits v old) (tail : Tail) (some : old.
     front_stays = parts_same (folder old.name v.reading) (folder old.name w.reading) old.sealed.items
         (λ one has. ap (found one.id) (file_stays v w old.name tail.id keeps one.id (apart one has)))
 
-    module _ (new : Parts) (gate : ℕ) (a : Advances old new tail gate) (now : Part) (at : IsFileAt w old.name tail.id (tail.last + 1) gate tail.size now) where
+    module _ (new : Parts) (gate : ℕ) (places : List ℕ) (a : Advances old new tail gate places) (now : Part) (last : ℕ) (at : IsFileAt w old.name tail.id last gate tail.size now) where
       -- the parts now
       pub parts_now : parts_in w.reading new ≡ sealed_parts v old fits ++ now ∷ []
       parts_now = ap (λ (n : List ℕ). parts_of (folder n w.reading) new.sealed.items ++ tail_parts (folder n w.reading) new.tail) a.name ∙ ⊎_elim longer sealed a.either
         where
-          longer : Lengthens old new tail gate → parts_of (folder old.name w.reading) new.sealed.items ++ tail_parts (folder old.name w.reading) new.tail ≡ front ++ now ∷ []
+          longer : Lengthens old new tail gate places → parts_of (folder old.name w.reading) new.sealed.items ++ tail_parts (folder old.name w.reading) new.tail ≡ front ++ now ∷ []
           longer l =
               (λ i. parts_of (folder old.name w.reading) (l.sealed i) ++ tail_parts (folder old.name w.reading) (l.is i))
               ∙ (λ i. front_stays i ++ part_list (folder old.name w.reading (l.id i)))
               ∙ ap (λ (f : Found). front ++ part_list f) at.whole
 
-          sealed : Seals old new tail gate → parts_of (folder old.name w.reading) new.sealed.items ++ tail_parts (folder old.name w.reading) new.tail ≡ front ++ now ∷ []
+          sealed : Seals old new tail gate places → parts_of (folder old.name w.reading) new.sealed.items ++ tail_parts (folder old.name w.reading) new.tail ≡ front ++ now ∷ []
           sealed s =
               (λ i. parts_of (folder old.name w.reading) (s.sealed i) ++ tail_parts (folder old.name w.reading) (s.none i))
               ∙ append-nil (parts_of (folder old.name w.reading) (old.sealed.items ++ s.one ∷ []))
@@ -130,8 +129,8 @@ module _ (v : View) (old : Parts) (fits : Fits v old) (tail : Tail) (some : old.
               a.either
 
       -- the disk fits them
-      pub fits_now : ArePlaced w old.name tail.id now (noted old.offsets.items tail) → now.id ≡ tail.id → now.rewritten ≡ false → now.cut ≡ 0 → now.floor ≡ 0 → Fits w new
-      fits_now placed same plain cut floor = record {
+      pub fits_now : last ≡ tail.last + length places → ArePlaced w old.name tail.id now (noted old.offsets.items tail places) → now.id ≡ tail.id → now.rewritten ≡ false → now.cut ≡ 0 → now.floor ≡ 0 → Fits w new
+      fits_now last_is placed same plain cut floor = record {
         sealed = λ one has. subst (λ (n : List ℕ). IsOpenIn n w.reading one) (sym a.name) (⊎_elim (λ l. kept one (subst (λ (m : List Opened). Contains m one) l.sealed has)) (λ s. sealed_one s one has) a.either);
         tail = subst (λ (n : List ℕ). TailIs w n new.tail new.offsets.items) (sym a.name) (⊎_elim longer (λ s. subst (λ (o : Option Tail). TailIs w old.name o new.offsets.items) (sym s.none) tt) a.either);
         generations = λ id listed.
@@ -145,13 +144,13 @@ module _ (v : View) (old : Parts) (fits : Fits v old) (tail : Tail) (some : old.
           kept : (one : Opened) → Contains old.sealed.items one → IsOpenIn old.name w.reading one
           kept one has = open_stays v w old.name tail.id keeps one (apart one has) (fits.sealed one has)
 
-          longer : Lengthens old new tail gate → TailIs w old.name new.tail new.offsets.items
+          longer : Lengthens old new tail gate places → TailIs w old.name new.tail new.offsets.items
           longer l = subst (λ (o : Option Tail). TailIs w old.name o new.offsets.items) (sym l.is) (record {
             part = now;
             at = record {
               whole = ap (folder old.name w.reading) l.id ∙ at.whole;
               plain = at.plain;
-              last_is = at.last_is ∙ sym l.last;
+              last_is = at.last_is ∙ last_is ∙ sym l.last;
               gate_is = at.gate_is ∙ sym l.gate_is;
               size_is = at.size_is ∙ sym l.size;
               at_gate = subst (λ (k : ℕ). IsAtGate w (place old.name l.next.id) k) (sym l.gate_is)
@@ -160,7 +159,7 @@ module _ (v : View) (old : Parts) (fits : Fits v old) (tail : Tail) (some : old.
             placed = subst (λ (i : FileId). ArePlaced w old.name i now new.offsets.items) (sym l.id) (subst (λ (m : Offset_list). ArePlaced w old.name tail.id now m) (sym l.offsets) placed);
           })
 
-          sealed_one : Seals old new tail gate → (one : Opened) → Contains new.sealed.items one → IsOpenIn old.name w.reading one
+          sealed_one : Seals old new tail gate places → (one : Opened) → Contains new.sealed.items one → IsOpenIn old.name w.reading one
           sealed_one s one has = ⊎_elim (λ was. kept one was) (λ is. subst (IsOpenIn old.name w.reading) is opened) (Contains-push_cases old.sealed.items s.one one (subst (λ (m : List Opened). Contains m one) s.sealed has))
             where
               as_told : appended_descriptor tail.id tail.size ≡ descriptor_of now
@@ -179,6 +178,6 @@ module _ (v : View) (old : Parts) (fits : Fits v old) (tail : Tail) (some : old.
               opened = (
                 now,
                 ap (folder old.name w.reading) s.id ∙ at.whole,
-                record { descriptor = s.descriptor ∙ as_told; last = s.last ∙ sym at.last_is; gate = s.gate_is ∙ sym at.gate_is },
+                record { descriptor = s.descriptor ∙ as_told; last = s.last ∙ sym last_is ∙ sym at.last_is; gate = s.gate_is ∙ sym at.gate_is },
                 λ bytes reads. subst (λ (m : Offset_list). StandAt bytes now m) (sym s.offsets) (placed bytes (ap (λ (i : FileId). w.reading (place old.name i)) (sym s.id) ∙ reads)),
               )

@@ -1,5 +1,5 @@
 -- A log in which no file has room gets a new one.
-use Rattle.std.proofs.Common.{◌≡◌, inl, inr, ⊎_elim, ℕ, ◌+◌, ◌-◌, ◌≤◌, Bool, true, false, IsTrue, List, [], ◌∷◌, ◌++◌, length, Option, Some, None, is_none, Result, Ok, Err, refl, sym, ap, subst, ◌∙◌, arith, Contains}
+use Rattle.std.proofs.Common.{◌≡◌, inl, inr, ⊎_elim, ℕ, ◌+◌, ◌≤◌, Bool, true, IsTrue, List, [], ◌∷◌, ◌++◌, length, Option, Some, None, is_none, Result, Ok, Err, refl, sym, ap, subst, ◌∙◌, arith, Contains}
 use Rattle.std.proofs.lemmas.Bool.{lt-ltb}
 use Rattle.std.proofs.lemmas.Result.{on_ok_weaker}
 use Rattle.host_types.specs.declared.entry.Entry.{Entry}
@@ -18,7 +18,7 @@ use Rattle.segment_set.specs.declared.parts.Parts.{Parts}
 use Rattle.segment_set.specs.Tails.{tail_count}
 use Rattle.segment_set.specs.Appends.{Appends, AppendsOn, BeginsOn}
 use Rattle.segment_set.specs.Growth.{HasOrBegins, HasOrGains, HasOrNew, IsFrameFor, begun, gained, greatest_after, has_room, lengthened, new_id, new_tail}
-use Rattle.segment_set.specs.Fits.{Fits, HasFile, IsAlone, IsEmptyWhereNone, IsHeld, IsMade, IsNewTail, IsOpenIn, IsTailOf, KeepsNames, TailIs, last_of, part_list, parts_in, parts_of, tail_parts}
+use Rattle.segment_set.specs.Fits.{Fits, IsAlone, IsEmptyWhereNone, IsHeld, IsMade, IsNewTail, IsOpenIn, IsTailOf, KeepsNames, TailIs, last_of, part_list, parts_in, parts_of, tail_parts}
 use Rattle.segment_set.proofs.Known.{file_stays, fresh_id, last_in_without, last_without, listed_before, needs_without, open_stays, sealed_listed, sealed_parts, without_tail}
 use Rattle.segment_set.proofs.Names.{names_further}
 use Rattle.segment_set.proofs.Images.{here}
@@ -134,7 +134,7 @@ still_empty v w old fits none keeps unlisted nothing =
     at None is = is
     at (Some b) is = absurd (nothing (next_id old) (b, is))
 
--- ---- and the entry
+-- ---- and the entries
 
 module _ (v m w : View) (old mid new : Parts) (frame : List ℕ) (size : ℕ) (fits : Fits v old) (none : old.tail ≡ None) (least : 2 ≤ size)
     (name : mid.name ≡ old.name) (greatest : mid.greatest ≡ old.greatest + 1) (lasts : last_of mid ≡ last_of old) where
@@ -148,48 +148,48 @@ module _ (v m w : View) (old mid new : Parts) (frame : List ℕ) (size : ℕ) (f
       let room : has_room (new_tail (next_id old) size) ≡ true = lt-ltb 0 size (omega (arith, least)) in
       ap (begun size g) is ∙ begun_with_room size g (sealed_parts v old fits) (new_tail (next_id old) size) room ∙ sym is
 
-  gained_so : (entry : Entry) → parts_in m.reading mid ≡ begun size old.greatest (parts_in v.reading old) → gained size mid.greatest (parts_in m.reading mid) entry ≡ gained size old.greatest (parts_in v.reading old) entry
-  gained_so entry is = ap (λ (l : List Part). lengthened l entry) (ap (begun size mid.greatest) is ∙ begun_again mid.greatest)
+  gained_so : (entries : List Entry) → parts_in m.reading mid ≡ begun size old.greatest (parts_in v.reading old) → gained size mid.greatest (parts_in m.reading mid) entries ≡ gained size old.greatest (parts_in v.reading old) entries
+  gained_so entries is = ap (λ (l : List Part). lengthened l entries) (ap (begun size mid.greatest) is ∙ begun_again mid.greatest)
 
-  next_frame : (entry : Entry) → IsFrameFor (last_of old) frame entry → IsFrameFor (last_of mid) frame entry
-  next_frame entry f = subst (λ (k : ℕ). IsFrameFor k frame entry) (sym lasts) f
+  next_frame : (entries : List Entry) → IsFrameFor (last_of old) frame entries → IsFrameFor (last_of mid) frame entries
+  next_frame entries f = subst (λ (k : ℕ). IsFrameFor k frame entries) (sym lasts) f
 
-  abbrev Gains : Entry → Image → Type 0
-  Gains entry = HasOrGains old.name size old.greatest (parts_in v.reading old) entry
+  abbrev Gains : List Entry → Image → Type 0
+  Gains entries = HasOrGains old.name size old.greatest (parts_in v.reading old) entries
 
   -- while the file is made
-  pub left_first : (entry : Entry) → LeavesOnly v m (HasOrBegins old.name size old.greatest (parts_in v.reading old)) → LeavesOnly v m (HasOrGains old.name size old.greatest (parts_in v.reading old) entry)
-  left_first entry only = weaker v m (HasOrBegins old.name size old.greatest (parts_in v.reading old)) (Gains entry) only (λ c has. ⊎_elim (λ same. inl same) (λ more. inr (inl more)) has)
+  pub left_first : (entries : List Entry) → LeavesOnly v m (HasOrBegins old.name size old.greatest (parts_in v.reading old)) → LeavesOnly v m (HasOrGains old.name size old.greatest (parts_in v.reading old) entries)
+  left_first entries only = weaker v m (HasOrBegins old.name size old.greatest (parts_in v.reading old)) (Gains entries) only (λ c has. ⊎_elim (λ same. inl same) (λ more. inr (inl more)) has)
 
-  -- while the entry is appended to it
-  left_then : (entry : Entry) → parts_in m.reading mid ≡ begun size old.greatest (parts_in v.reading old) → LeavesOnly m w (HasOrGains mid.name size mid.greatest (parts_in m.reading mid) entry) → LeavesOnly m w (Gains entry)
-  left_then entry is only =
-      weaker m w (HasOrGains mid.name size mid.greatest (parts_in m.reading mid) entry) (Gains entry) only
+  -- while the entries are appended to it
+  left_then : (entries : List Entry) → parts_in m.reading mid ≡ begun size old.greatest (parts_in v.reading old) → LeavesOnly m w (HasOrGains mid.name size mid.greatest (parts_in m.reading mid) entries) → LeavesOnly m w (Gains entries)
+  left_then entries is only =
+      weaker m w (HasOrGains mid.name size mid.greatest (parts_in m.reading mid) entries) (Gains entries) only
       (λ c has. ⊎_elim
       (λ same. inr (inl (subst (λ (n : List ℕ). IsChoice (folder n c) B) name (subst (IsChoice (folder mid.name c)) is same))))
       (λ rest. ⊎_elim
       (λ same. inr (inl (subst (λ (n : List ℕ). IsChoice (folder n c) B) name (subst (IsChoice (folder mid.name c)) (ap (begun size mid.greatest) is ∙ begun_again mid.greatest) same))))
-      (λ more. inr (inr (subst (λ (n : List ℕ). IsChoice (folder n c) (gained size old.greatest (parts_in v.reading old) entry)) name (subst (IsChoice (folder mid.name c)) (gained_so entry is) more))))
+      (λ more. inr (inr (subst (λ (n : List ℕ). IsChoice (folder n c) (gained size old.greatest (parts_in v.reading old) entries)) name (subst (IsChoice (folder mid.name c)) (gained_so entries is) more))))
       rest)
       has)
 
   pub first_on : {T : Type 0} (tail : Tail) (result : Result T DiskFault) → BeginsOn v m old mid size {T = Tail} (Ok tail) → AppendsOn m w mid new frame size result → AppendsOn v w old new frame size result
   first_on tail result files more = record {
     fits = more.fits;
-    parts = on_ok_weaker result (λ parts entry f. parts entry (next_frame entry f) ∙ gained_so entry files.parts) more.parts;
+    parts = on_ok_weaker result (λ parts entries f. parts entries (next_frame entries f) ∙ gained_so entries files.parts) more.parts;
     alone = on_ok_weaker result (λ alone_then alone. alone_then (files.alone alone)) more.alone;
     held = on_ok_weaker result (λ held_then held. held_then (files.held held)) more.held;
-    any_moment = λ held entry f. goes_further v m w (Gains entry) (left_first entry (files.any_moment held)) (left_then entry files.parts (more.any_moment (files.held held) entry (next_frame entry f)));
+    any_moment = λ held entries f. goes_further v m w (Gains entries) (left_first entries (files.any_moment held)) (left_then entries files.parts (more.any_moment (files.held held) entries (next_frame entries f)));
     empty = λ held. subst (IsEmptyWhereNone w) name (more.empty (files.held held));
     others = names_further v m w old.name files.others (subst (KeepsNames m w) name more.others);
   }
 
 -- over any disk
-pub appends_first : (v m w : View) (old mid new : Parts) (frame : List ℕ) (size : ℕ) → old.tail ≡ None → 2 ≤ size → mid.name ≡ old.name → mid.greatest ≡ old.greatest + 1 → last_of mid ≡ last_of old
+pub appends_first : (v m w : View) (old mid new : Parts) (frame : List ℕ) (count size : ℕ) → old.tail ≡ None → 2 ≤ size → mid.name ≡ old.name → mid.greatest ≡ old.greatest + 1 → last_of mid ≡ last_of old
     → {T : Type 0} (tail : Tail) (result : Result T DiskFault) (tells : Bool) (before between now : ℕ) → (IsTrue tells → Fits v old) → before ≤ between → (IsTrue tells → BeginsOn v m old mid size {T = Tail} (Ok tail))
-    → Appends tells m w between now mid new frame size result → mid.tail ≡ Some tail → Appends tells v w before now old new frame size result
-appends_first v m w old mid new frame size none least name greatest lasts tail result tells before between now fits later files more some = record {
-  last = on_ok_weaker result (λ next. next ∙ ap (λ (k : ℕ). k + 1) lasts) more.last;
+    → Appends tells m w between now mid new frame count size result → mid.tail ≡ Some tail → Appends tells v w before now old new frame count size result
+appends_first v m w old mid new frame count size none least name greatest lasts tail result tells before between now fits later files more some = record {
+  last = on_ok_weaker result (λ next. next ∙ ap (λ (k : ℕ). k + count) lasts) more.last;
   greatest = on_ok_weaker result (λ next. next ∙ (λ i. greatest_after (is_none (some i)) (greatest i)) ∙ sym (ap (λ (o : Option Tail). greatest_after (is_none o) old.greatest) none)) more.greatest;
   name = more.name ∙ name;
   told = λ t. first_on v m w old mid new frame size (fits t) none least name greatest lasts tail result (files t) (more.told t);
@@ -206,8 +206,8 @@ appends_none v m old mid frame size fault files = record {
   parts = tt;
   alone = tt;
   held = tt;
-  any_moment = λ held entry f.
-      weaker v m (HasOrBegins old.name size old.greatest (parts_in v.reading old)) (HasOrGains old.name size old.greatest (parts_in v.reading old) entry) (files.any_moment held)
+  any_moment = λ held entries f.
+      weaker v m (HasOrBegins old.name size old.greatest (parts_in v.reading old)) (HasOrGains old.name size old.greatest (parts_in v.reading old) entries) (files.any_moment held)
       (λ c has. ⊎_elim (λ same. inl same) (λ more. inr (inl more)) has);
   empty = files.empty;
   others = files.others;

@@ -1,11 +1,8 @@
 -- Where no file is listed, no image has a part: so it stays whatever fails.
-use Rattle.std.proofs.Common.{◌≡◌, ◌≢◌, ⊎_elim, ℕ, List, [], ◌∷◌, Option, Some, None, refl, ap, subst, ◌∙◌, Contains}
+use Rattle.std.proofs.Common.{◌≡◌, ℕ, List, Option, Some, None, refl, ap, ◌∙◌}
 use Rattle.disk_model.specs.declared.file_id.FileId.{FileId}
-use Rattle.disk_model.specs.Image.{Place, Image, place}
-use Rattle.disk_model.specs.View.{View, MayHold, IsListed, IsSound, LeavesAt, LeavesOnly}
-use Rattle.disk_model.proofs.Moments.{has_now}
-use Rattle.disk_model.proofs.Places.{own}
-use Rattle.segment_files.specs.Folder.{folder, IsChoice}
+use Rattle.disk_model.specs.Image.{Image, place}
+use Rattle.disk_model.specs.View.{View, MayHold, IsListed, IsSound, LeavesAt}
 use Rattle.segment_set.specs.Fits.{IsEmptyWhereNone}
 use Rattle.segment_set.proofs.Picking.{narrow}
 

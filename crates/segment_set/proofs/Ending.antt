@@ -1,20 +1,19 @@
 -- The last entry of the parts of a folder, as it was read.
-use Rattle.std.proofs.Common.{◌≡◌, ◌⊎◌, inl, inr, ⊎_elim, ℕ, ◌+◌, ◌-◌, ◌<◌, ◌≤◌, Bool, true, false, nat_eq, List, [], ◌∷◌, ◌++◌, Option, Some, None, refl, sym, ap, subst, ◌∙◌, arith, append_assoc, Contains}
+use Rattle.std.proofs.Common.{◌≡◌, ⊎_elim, ℕ, ◌+◌, ◌-◌, ◌<◌, true, false, List, [], ◌∷◌, ◌++◌, Option, Some, None, refl, sym, ap, subst, ◌∙◌, arith, append_assoc, Contains}
 use Rattle.std.proofs.lemmas.Bool.{cases_Bool, eq-eqb, eqb-true}
 use Rattle.disk_model.specs.declared.file_id.FileId.{FileId}
 use Rattle.disk_model.specs.Image.{Image, place}
 use Rattle.segment_files.specs.declared.descriptor.Descriptor.{Descriptor}
 use Rattle.segment_files.specs.Contents.{AreAt, Offset_list, last_offset, last_read}
-use Rattle.segment_files.specs.Parse.{Numbered, Part, Found, Closed, Whole, Damaged, last_index, last_place}
-use Rattle.segment_files.specs.Folder.{AreEnded, Folder, HasLast, IsChoice, IsFault, IsLastFilled, IsUnended, Span, Tiles, found, folder}
+use Rattle.segment_files.specs.Parse.{Numbered, Part, Whole, last_index}
+use Rattle.segment_files.specs.Folder.{AreEnded, Folder, HasLast, IsChoice, IsUnended, Tiles, found, folder}
 use Rattle.segment_set.specs.declared.opened.Opened.{Opened}
 use Rattle.segment_set.specs.Fits.{IsOpenIn, part_list, parts_of}
 use Rattle.segment_set.specs.Joined.{has_last}
-use Rattle.segment_set.specs.Load.{id_from}
 use Rattle.segment_set.specs.Sifting.{AreOpen, IsOpenedAs}
-use Rattle.segment_set.specs.Split.{AreEmpty, AreEndedFiles, AreOpenIn, IsUnendedFile}
+use Rattle.segment_set.specs.Split.{AreEndedFiles, AreOpenIn, IsUnendedFile}
 use Rattle.segment_set.proofs.Chosen.{parts_from, parts_has}
-use Rattle.segment_set.proofs.Images.{here, nothing, own_id}
+use Rattle.segment_set.proofs.Images.{here, own_id}
 use Rattle.segment_set.proofs.Lying.{there}
 
 -- the bytes of an open file

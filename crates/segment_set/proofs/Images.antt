@@ -1,5 +1,5 @@
 -- Images that differ from one of before at one place, as folders.
-use Rattle.std.proofs.Common.{◌≡◌, ◌≢◌, ◌⊎◌, inl, inr, ⊎_elim, ℕ, zero, suc, ◌+◌, ◌<◌, ◌≤◌, Bool, false, cond, List, [], ◌∷◌, ◌++◌, Option, Some, None, refl, sym, ap, subst, ◌∙◌, arith, Contains}
+use Rattle.std.proofs.Common.{◌≡◌, ◌≢◌, ◌⊎◌, inl, inr, ⊎_elim, ℕ, zero, suc, ◌<◌, ◌≤◌, Bool, false, cond, List, [], ◌∷◌, ◌++◌, Option, Some, None, refl, sym, ap, subst, ◌∙◌, arith, Contains}
 use Rattle.std.proofs.lemmas.Bool.{cases_Bool}
 use Rattle.std.proofs.lemmas.List.Elements.{Contains-append_left, Contains-push_cases, Contains-push}
 use Rattle.disk_model.specs.declared.file_id.FileId.{FileId}
@@ -8,7 +8,7 @@ use Rattle.disk_model.specs.View.{View, MayHold, MayLeave, IsSound}
 use Rattle.disk_model.proofs.Names.{same_when, same_to, place_cases}
 use Rattle.disk_model.proofs.Places.{own}
 use Rattle.segment_files.specs.Files.{KeepsOthers}
-use Rattle.segment_files.specs.Parse.{Part, Closed, Whole, Damaged, parse}
+use Rattle.segment_files.specs.Parse.{Part, Closed, Whole, parse}
 use Rattle.segment_files.specs.Folder.{Folder, LiesIn, Span, found, folder, span, IsChoice}
 use Rattle.segment_set.proofs.Appended.{parse_id}
 use Rattle.segment_set.proofs.Numbering.{IsPlain, plain_part}

@@ -1,16 +1,15 @@
 -- What is known of the parts of a log where a disk fits them.
-use Rattle.std.proofs.Common.{◌≡◌, ◌≢◌, ◌⊎◌, inl, inr, ⊎_elim, ℕ, ◌+◌, ◌-◌, ◌<◌, ◌≤◌, ◌&&◌, ◌||◌, Bool, true, false, not, nat_le, nat_lt, if◌then◌else◌, List, [], ◌∷◌, ◌++◌, length, Option, Some, None, is_none, refl, sym, ap, subst, ◌∙◌, arith, Contains}
+use Rattle.std.proofs.Common.{◌≡◌, ◌⊎◌, inl, inr, ⊎_elim, ℕ, ◌+◌, ◌-◌, ◌<◌, ◌≤◌, ◌&&◌, ◌||◌, Bool, true, false, not, nat_le, nat_lt, List, [], ◌∷◌, ◌++◌, length, Option, Some, None, refl, sym, ap, subst, ◌∙◌, arith, Contains}
 use Rattle.std.proofs.lemmas.List.{append-nil}
-use Rattle.std.proofs.lemmas.List.Elements.{Contains-append_left, Contains-append_right, Contains-append_cases}
-use Rattle.std.proofs.lemmas.Bool.{and_from, lt-ltb, cases_Bool}
+use Rattle.std.proofs.lemmas.List.Elements.{Contains-append_cases}
+use Rattle.std.proofs.lemmas.Bool.{and_from, lt-ltb}
 use Rattle.disk_model.specs.declared.file_id.FileId.{FileId}
-use Rattle.disk_model.specs.Image.{Image, Place, place}
+use Rattle.disk_model.specs.Image.{Image, place}
 use Rattle.disk_model.specs.View.{View, IsListed}
 use Rattle.disk_model.proofs.Names.{place_cases}
 use Rattle.segment_files.specs.declared.descriptor.Descriptor.{Descriptor}
 use Rattle.segment_files.specs.Files.{KeepsOthers}
-use Rattle.segment_files.specs.Contents.{Offset_list, descriptor_of}
-use Rattle.segment_files.specs.Parse.{Part, Found, Closed, Whole, Damaged}
+use Rattle.segment_files.specs.Parse.{Part, Found}
 use Rattle.segment_files.specs.Folder.{Folder, folder, found}
 use Rattle.segment_files.proofs.Placing.{at_length}
 use Rattle.segment_set.specs.declared.opened.Opened.{Opened}
@@ -23,7 +22,6 @@ use Rattle.segment_set.specs.Fits.{Fits, IsOpenIn, TailFits, TailIs, last_of, pa
 use Rattle.segment_set.proofs.Images.{bytes_of, here, one_of, own_id}
 use Rattle.segment_set.proofs.Joining.{joined_full}
 use Rattle.segment_set.proofs.Lying.{there}
-use Rattle.segment_set.proofs.PartLists.{last_by_last, needs_by_last}
 
 -- ---- ONE FILE that was opened
 
@@ -60,6 +58,23 @@ module _ (name : List ℕ) (image : Image) (one : Opened) (it : IsOpenIn name im
       by true n m = refl
       by false n m = below n m
 
+-- the file that a part comes from
+pub file_from : (name : List ℕ) (image : Image) (p : Part) (files : List Opened) → ((one : Opened) → Contains files one → IsOpenIn name image one)
+    → Contains (parts_of (folder name image) files) p → (one : Opened) × Contains files one × (p.id ≡ one.id)
+file_from name image p [] each none = absurd (let lt : none.0 < 0 = none.1 in omega arith)
+file_from name image p (x ∷ xs) each in_it = ⊎_elim
+    (λ first. (x, here x xs, own x (each x (here x xs)) first))
+    (λ later. let rest = file_from name image p xs (λ one h. each one (there x xs one h)) later in (rest.0, there x xs rest.0 rest.1, rest.2))
+    (Contains-append_cases (part_list (folder name image x.id)) (parts_of (folder name image) xs) p in_it)
+  where
+    own : (x : Opened) → IsOpenIn name image x → Contains (part_list (folder name image x.id)) p → p.id ≡ x.id
+    own x it first =
+        let only = subst (λ (l : List Part). Contains l p) (is_there name image x it) first in
+        ap (λ (q : Part). q.id) (sym (one_is it.0 only)) ∙ id_is name image x it
+      where
+        one_is : (q : Part) → Contains (q ∷ []) p → q ≡ p
+        one_is q h = ⊎_elim (λ is. is) (λ none. absurd (let lt : none.0 < 0 = none.1 in omega arith)) (one_of q [] p h)
+
 -- ---- ALL of them
 
 module _ (v : View) (parts : Parts) (fits : Fits v parts) where
@@ -74,22 +89,7 @@ module _ (v : View) (parts : Parts) (fits : Fits v parts) where
 
   -- where each part comes from
   pub sealed_from : (p : Part) → Contains sealed_parts p → (one : Opened) × Contains parts.sealed.items one × (p.id ≡ one.id)
-  sealed_from p has = go parts.sealed.items (λ one in_it. fits.sealed one in_it) has
-    where
-      go : (xs : List Opened) → ((one : Opened) → Contains xs one → IsOpenIn parts.name v.reading one) → Contains (parts_of files xs) p → (one : Opened) × Contains xs one × (p.id ≡ one.id)
-      go [] each none = absurd (let lt : none.0 < 0 = none.1 in omega arith)
-      go (x ∷ xs) each in_it = ⊎_elim
-          (λ first. (x, here x xs, own x (each x (here x xs)) first))
-          (λ later. let rest = go xs (λ one h. each one (there x xs one h)) later in (rest.0, there x xs rest.0 rest.1, rest.2))
-          (Contains-append_cases (part_list (files x.id)) (parts_of files xs) p in_it)
-        where
-          own : (x : Opened) → IsOpenIn parts.name v.reading x → Contains (part_list (files x.id)) p → p.id ≡ x.id
-          own x it first =
-              let only = subst (λ (l : List Part). Contains l p) (is_there parts.name v.reading x it) first in
-              ap (λ (q : Part). q.id) (sym (one_is it.0 only)) ∙ id_is parts.name v.reading x it
-            where
-              one_is : (q : Part) → Contains (q ∷ []) p → q ≡ p
-              one_is q h = ⊎_elim (λ is. is) (λ none. absurd (let lt : none.0 < 0 = none.1 in omega arith)) (one_of q [] p h)
+  sealed_from p has = file_from parts.name v.reading p parts.sealed.items (λ one in_it. fits.sealed one in_it) has
 
   -- no file that isn't listed is one of them
   pub apart_from_new : (id : FileId) → v.reading (place parts.name id) ≡ None → AreApart sealed_parts id

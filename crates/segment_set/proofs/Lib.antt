@@ -6,6 +6,8 @@ pub mod Chosen
 pub mod Emptied
 pub mod Ending
 pub mod Entries
+pub mod Exchanged
+pub mod Exchanging
 pub mod Filled
 pub mod Fitting
 pub mod FolderExamples
@@ -37,4 +39,5 @@ pub mod Surveying
 pub mod Tiles
 pub mod Tiling
 pub mod Turns
+pub mod Viewing
 pub mod Walks

@@ -1,9 +1,9 @@
 -- What an opening gives.
-use Rattle.std.proofs.Common.{◌≡◌, ◌⊎◌, inl, inr, ⊎_elim, ℕ, ◌+◌, ◌≤◌, Bool, false, List, [], ◌∷◌, ◌++◌, Option, Some, None, refl, sym, ap, subst, ◌∙◌, arith, Contains}
+use Rattle.std.proofs.Common.{◌≡◌, ◌⊎◌, inl, inr, ⊎_elim, ℕ, ◌+◌, ◌≤◌, false, List, [], ◌∷◌, ◌++◌, Option, Some, None, refl, sym, ap, subst, ◌∙◌, arith, Contains}
 use Rattle.std.proofs.lemmas.List.{append-nil}
 use Rattle.std.proofs.lemmas.List.Elements.{Contains-append_left, Contains-append_right, Contains-push, Contains-push_cases}
 use Rattle.disk_model.specs.declared.file_id.FileId.{FileId}
-use Rattle.disk_model.specs.Image.{Place, Image, place}
+use Rattle.disk_model.specs.Image.{Image, place}
 use Rattle.disk_model.specs.View.{View, MayHold, IsListed, IsSettled}
 use Rattle.disk_model.specs.Calls.{Lists}
 use Rattle.disk_model.proofs.Names.{holds_now}
@@ -15,17 +15,16 @@ use Rattle.segment_files.specs.Folder.{AreParts, EachHas, Folder, Span, Tiles, f
 use Rattle.segment_set.specs.declared.opened.Opened.{Opened}
 use Rattle.segment_set.specs.declared.parts.Parts.{Parts}
 use Rattle.segment_set.specs.declared.tail.Tail.{Tail}
-use Rattle.segment_set.specs.Fits.{HasFile, IsEmptyWhereNone, IsOpenIn, IsTailOf, TailFits, TailIs, part_list, parts_of, tail_parts}
+use Rattle.segment_set.specs.Fits.{HasFile, IsOpenIn, IsTailOf, TailIs, part_list, parts_of, tail_parts}
 use Rattle.segment_set.specs.Joined.{last_index_of, last_of_files}
 use Rattle.segment_set.specs.Load.{IsGreatestListed, IsLoaded}
 use Rattle.segment_set.specs.Sifting.{IsOpenedAs}
 use Rattle.segment_set.specs.Split.{Splits}
-use Rattle.segment_set.proofs.Ending.{bytes_in, opened_as, parts_append}
+use Rattle.segment_set.proofs.Ending.{opened_as, parts_append}
 use Rattle.segment_set.proofs.Images.{here}
 use Rattle.segment_set.proofs.Loading.{Opens, bytes_of_whole, gone_listed, held_after, kept_apart, kept_in, kept_same, parts, shut_gate, sifted, tile}
 use Rattle.segment_set.proofs.Lying.{there}
 use Rattle.segment_set.proofs.Picking.{settled_after}
-use Rattle.segment_set.proofs.Removing.{id_of}
 use Rattle.segment_set.proofs.Splitting.{room_is}
 
 -- a file that reads the same in another image

@@ -1,7 +1,7 @@
 -- The calls of an opening, one after the other: what was read, what was chosen, and what is removed.
 use Rattle.std.proofs.Common.{◌≡◌, ◌≢◌, ◌⊎◌, inl, inr, ⊎_elim, ℕ, zero, suc, ◌+◌, ◌<◌, false, List, [], ◌∷◌, ◌++◌, length, get_or, Option, Some, None, refl, sym, ap, subst, ◌∙◌, arith, Contains}
 use Rattle.std.specs.List.{AllPairs}
-use Rattle.std.proofs.lemmas.List.Elements.{Contains-append_cases, Contains-append_left, Contains-append_right, Contains-get_or}
+use Rattle.std.proofs.lemmas.List.Elements.{Contains-append_cases, Contains-get_or}
 use Rattle.std.proofs.lemmas.Bool.{eq-eqb}
 use Rattle.disk_model.specs.declared.file_id.FileId.{FileId}
 use Rattle.disk_model.specs.Image.{Place, Image, place}
@@ -11,17 +11,17 @@ use Rattle.disk_model.proofs.Moments.{goes_further, weaker, has_now}
 use Rattle.disk_model.proofs.Places.{own}
 use Rattle.segment_files.specs.Files.{HasNames}
 use Rattle.segment_files.specs.Parse.{Part, Closed, Whole, parse}
-use Rattle.segment_files.specs.Folder.{AreParts, Folder, found, folder, IsChoice, IsFault, EachHas, Tiles, span}
+use Rattle.segment_files.specs.Folder.{AreParts, Folder, found, folder, IsChoice, IsFault, EachHas, Tiles}
 use Rattle.segment_set.specs.ChoiceLaws.{IsSuperseded}
 use Rattle.segment_set.specs.declared.opened.Opened.{Opened}
 use Rattle.segment_set.specs.Fits.{IsEmptyWhereNone, IsOpenIn, parts_of}
 use Rattle.segment_set.specs.Load.{AreListed, OrGone, Surveyed, IsLikeBefore}
-use Rattle.segment_set.specs.Sifting.{AreOpen, LiesInOne, Sifted}
+use Rattle.segment_set.specs.Sifting.{AreOpen, Sifted}
 use Rattle.segment_set.specs.Split.{AreOpenIn, IsChosen}
 use Rattle.segment_set.proofs.Appended.{appended, gate_in, gate_shut}
-use Rattle.segment_set.proofs.Chosen.{lies_as, parts_from, parts_has}
+use Rattle.segment_set.proofs.Chosen.{lies_as, parts_has}
 use Rattle.segment_set.proofs.Ending.{are_open, bytes_in, opened_as, parts_ended}
-use Rattle.segment_set.proofs.Images.{nothing, one_of, here}
+use Rattle.segment_set.proofs.Images.{here}
 use Rattle.segment_set.proofs.LawProofs.{beside, no_fault, one_choice}
 use Rattle.segment_set.proofs.Picking.{like_at_first, like_still, narrow, same_as_read, settled_has}
 use Rattle.segment_set.proofs.Removing.{id_of}
@@ -52,7 +52,7 @@ open_in v name ids closed opened lists s = record {
     at id (Some b) is = ⊎_elim (λ shut. inl (s.closed_is id shut)) (λ open_one. inr open_one) (s.each id ((lists.each id).1 (b, is)))
 
 -- places of a list of lists
-pairs_more : {X : Type 0} (R : X → X → Type 0) (x : X) (xs : List X) → ((y : X) → Contains xs y → R x y) → AllPairs R xs → AllPairs R (x ∷ xs)
+pub pairs_more : {X : Type 0} (R : X → X → Type 0) (x : X) (xs : List X) → ((y : X) → Contains xs y → R x y) → AllPairs R xs → AllPairs R (x ∷ xs)
 pairs_more R x xs first all zero zero d lt below = absurd (omega (arith, lt))
 pairs_more R x xs first all zero (suc j) d lt below = first (get_or xs j d) (Contains-get_or xs j d (omega (arith, below)))
 pairs_more R x xs first all (suc i) zero d lt below = absurd (omega (arith, lt))

@@ -1,13 +1,11 @@
--- A list of parts that gets an entry more, by its last part.
-use Rattle.std.proofs.Common.{◌≡◌, ℕ, ◌+◌, Bool, true, false, not, if◌then◌else◌, List, [], ◌∷◌, ◌++◌, refl, sym, ap, ◌∙◌, append_assoc, Contains}
-use Rattle.std.proofs.lemmas.List.{append-nil}
+-- A list of parts that gets entries more, by its last part.
+use Rattle.std.proofs.Common.{◌≡◌, ℕ, Bool, true, not, if◌then◌else◌, List, [], ◌∷◌, ◌++◌, refl, sym, ap, ◌∙◌, append_assoc, Contains}
 use Rattle.host_types.specs.declared.entry.Entry.{Entry}
-use Rattle.disk_model.specs.declared.file_id.FileId.{FileId}
-use Rattle.segment_files.specs.Parse.{Part, Found}
+use Rattle.segment_files.specs.Parse.{Part}
 use Rattle.segment_files.specs.Folder.{Folder}
 use Rattle.segment_set.specs.declared.opened.Opened.{Opened}
 use Rattle.segment_set.specs.Fits.{part_list, parts_of}
-use Rattle.segment_set.specs.Growth.{begun, gained, has_room, last_in, lengthened, needs_file, new_id, new_tail, with_entry}
+use Rattle.segment_set.specs.Growth.{begun, gained, has_room, last_in, lengthened, needs_file, new_id, new_tail, with_entries}
 use Rattle.segment_set.proofs.Images.{here}
 use Rattle.segment_set.proofs.Lying.{there}
 
@@ -21,18 +19,18 @@ last_by_last [] p = refl
 last_by_last (q ∷ []) p = refl
 last_by_last (q ∷ r ∷ front) p = last_by_last (r ∷ front) p
 
-pub longer_by_last : (front : List Part) (p : Part) (entry : Entry) → lengthened (front ++ p ∷ []) entry ≡ front ++ with_entry p entry ∷ []
-longer_by_last [] p entry = refl
-longer_by_last (q ∷ []) p entry = refl
-longer_by_last (q ∷ r ∷ front) p entry = ap (λ (l : List Part). q ∷ l) (longer_by_last (r ∷ front) p entry)
+pub longer_by_last : (front : List Part) (p : Part) (entries : List Entry) → lengthened (front ++ p ∷ []) entries ≡ front ++ with_entries p entries ∷ []
+longer_by_last [] p entries = refl
+longer_by_last (q ∷ []) p entries = refl
+longer_by_last (q ∷ r ∷ front) p entries = ap (λ (l : List Part). q ∷ l) (longer_by_last (r ∷ front) p entries)
 
 -- where the last one has room
 pub begun_with_room : (size greatest : ℕ) (front : List Part) (p : Part) → has_room p ≡ true → begun size greatest (front ++ p ∷ []) ≡ front ++ p ∷ []
 begun_with_room size greatest front p room =
     ap (λ (t : Bool). if t then (front ++ p ∷ []) ++ new_tail (new_id greatest (front ++ p ∷ [])) size ∷ [] else front ++ p ∷ []) (needs_by_last front p ∙ ap not room)
 
-pub gained_with_room : (size greatest : ℕ) (front : List Part) (p : Part) (entry : Entry) → has_room p ≡ true → gained size greatest (front ++ p ∷ []) entry ≡ front ++ with_entry p entry ∷ []
-gained_with_room size greatest front p entry room = ap (λ (l : List Part). lengthened l entry) (begun_with_room size greatest front p room) ∙ longer_by_last front p entry
+pub gained_with_room : (size greatest : ℕ) (front : List Part) (p : Part) (entries : List Entry) → has_room p ≡ true → gained size greatest (front ++ p ∷ []) entries ≡ front ++ with_entries p entries ∷ []
+gained_with_room size greatest front p entries room = ap (λ (l : List Part). lengthened l entries) (begun_with_room size greatest front p room) ∙ longer_by_last front p entries
 
 -- and where a new file is needed
 pub begun_without : (size greatest : ℕ) (parts : List Part) → needs_file parts ≡ true → begun size greatest parts ≡ parts ++ new_tail (new_id greatest parts) size ∷ []

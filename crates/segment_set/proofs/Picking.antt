@@ -1,5 +1,5 @@
 -- What an opening leaves at each moment.
-use Rattle.std.proofs.Common.{◌≡◌, ◌≢◌, ◌⊎◌, inl, inr, ⊎_elim, ℕ, List, [], ◌∷◌, take, Option, Some, None, refl, sym, ap, subst, ◌∙◌, arith, Contains}
+use Rattle.std.proofs.Common.{◌≡◌, ◌≢◌, inl, inr, ⊎_elim, ℕ, List, [], ◌∷◌, Option, Some, None, refl, sym, ap, subst, ◌∙◌, arith, Contains}
 use Rattle.std.specs.List.{AllPairs}
 use Rattle.disk_model.specs.declared.file_id.FileId.{FileId}
 use Rattle.disk_model.specs.Image.{Place, Image, place, IsBelow}
@@ -7,7 +7,6 @@ use Rattle.disk_model.specs.View.{View, MayHold, MayLeave, IsListed, IsSettled, 
 use Rattle.disk_model.specs.Calls.{Lists}
 use Rattle.disk_model.proofs.Moments.{goes_further, weaker, has_now}
 use Rattle.disk_model.proofs.Names.{holds_now}
-use Rattle.disk_model.proofs.Places.{own}
 use Rattle.segment_files.specs.Files.{HasNames}
 use Rattle.segment_files.specs.Parse.{Part, Closed}
 use Rattle.segment_files.specs.Folder.{Folder, found, folder, IsChoice, EachHas}

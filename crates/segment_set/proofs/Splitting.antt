@@ -1,13 +1,13 @@
 -- The files that were kept, split into those that are appended to no more and the one behind them.
-use Rattle.std.proofs.Common.{◌≡◌, ◌⊎◌, inl, inr, ⊎_elim, ℕ, zero, suc, ◌+◌, ◌-◌, ◌<◌, ◌≤◌, Bool, true, false, not, ◌&&◌, ◌||◌, nat_eq, nat_le, nat_lt, List, [], ◌∷◌, ◌++◌, length, take, drop, get_or, Option, Some, None, refl, sym, ap, subst, ◌∙◌, arith, drop-cons, Contains}
-use Rattle.std.proofs.lemmas.Bool.{and_from, and_parts, cases_Bool, cases_lt, eq-eqb, eqb-true, le-leb, leb-true, lt-leb}
+use Rattle.std.proofs.Common.{◌≡◌, ◌⊎◌, inl, inr, ⊎_elim, ℕ, zero, suc, ◌+◌, ◌-◌, ◌<◌, ◌≤◌, Bool, true, false, not, ◌&&◌, ◌||◌, nat_eq, nat_le, nat_lt, List, [], ◌∷◌, ◌++◌, length, take, drop, get_or, Option, Some, None, refl, sym, ap, subst, ◌∙◌, arith, drop-cons}
+use Rattle.std.proofs.lemmas.Bool.{and_from, and_parts, cases_lt, eq-eqb, eqb-true, le-leb, leb-true}
 use Rattle.std.proofs.lemmas.List.Elements.{All-nil}
 use Rattle.disk_model.specs.declared.file_id.FileId.{FileId}
 use Rattle.segment_files.specs.Contents.{AreBelow, Offset_list, last_read}
 use Rattle.segment_set.specs.declared.opened.Opened.{Opened}
 use Rattle.segment_set.specs.declared.tail.Tail.{Tail}
 use Rattle.segment_set.specs.Joined.{are_joined, are_tiled, begins_at, end_of, ends_with, has_end, has_last, has_tail_or_full, is_full, last_has_last, last_is_full}
-use Rattle.segment_set.specs.Split.{AreEmpty, AreEndedFiles, IsTakenAs, Splits, has_room}
+use Rattle.segment_set.specs.Split.{AreEmpty, AreEndedFiles, Splits, has_room}
 use Rattle.segment_set.specs.Tails.{tail_base, tail_count, tail_gate, tail_last}
 use Rattle.segment_set.proofs.Filled.{split_cases, within}
 use Rattle.segment_set.proofs.Images.{nothing}

@@ -7,22 +7,22 @@ use Rattle.segment_set.specs.declared.parts.Parts.{Parts}
 use Rattle.segment_set.specs.Growth.{HasOrBegins, HasOrGains, IsFrameFor, begun, gained, greatest_after}
 use Rattle.segment_set.specs.Fits.{Fits, IsAlone, IsEmptyWhereNone, IsHeld, KeepsNames, last_of, parts_in}
 
--- on a disk that tells, where this frame has the next entry, and a new file has this size
+-- on a disk that tells, where this frame has the next entries, and a new file has this size
 pub record AppendsOn (v w : View) (old new : Parts) (frame : List ℕ) (size : ℕ) {T : Type 0} (result : Result T DiskFault) : Type 0 where
   pub fits : OnOk result (Fits w new)
-  -- the parts are as before, with the entry behind
-  pub parts : OnOk result ((entry : Entry) → IsFrameFor (last_of old) frame entry → parts_in w.reading new ≡ gained size old.greatest (parts_in v.reading old) entry)
+  -- the parts are as before, with the entries behind
+  pub parts : OnOk result ((entries : List Entry) → IsFrameFor (last_of old) frame entries → parts_in w.reading new ≡ gained size old.greatest (parts_in v.reading old) entries)
   pub alone : OnOk result (IsAlone v old → IsAlone w new)
-  -- from an Ok on each image has the entry
+  -- from an Ok on each image has the entries
   pub held : OnOk result (IsHeld v old → IsHeld w new)
-  -- until then a crash leaves the log without it, with an empty file for it, or with it
-  pub any_moment : IsHeld v old → (entry : Entry) → IsFrameFor (last_of old) frame entry → LeavesOnly v w (HasOrGains old.name size old.greatest (parts_in v.reading old) entry)
+  -- until then a crash leaves the log without them, with an empty file for them, or with all of them
+  pub any_moment : IsHeld v old → (entries : List Entry) → IsFrameFor (last_of old) frame entries → LeavesOnly v w (HasOrGains old.name size old.greatest (parts_in v.reading old) entries)
   pub empty : IsHeld v old → IsEmptyWhereNone w old.name
   pub others : KeepsNames v w old.name
 
--- on any disk, which had so many faults before and has so many now
-pub record Appends (tells : Bool) (v w : View) (before now : ℕ) (old new : Parts) (frame : List ℕ) (size : ℕ) {T : Type 0} (result : Result T DiskFault) : Type 0 where
-  pub last : OnOk result (last_of new ≡ last_of old + 1)
+-- on any disk, which had so many faults before and has so many now, where the frame has so many entries
+pub record Appends (tells : Bool) (v w : View) (before now : ℕ) (old new : Parts) (frame : List ℕ) (count size : ℕ) {T : Type 0} (result : Result T DiskFault) : Type 0 where
+  pub last : OnOk result (last_of new ≡ last_of old + count)
   pub greatest : OnOk result (new.greatest ≡ greatest_after (is_none old.tail) old.greatest)
   pub name : new.name ≡ old.name
   pub told : IsTrue tells → AppendsOn v w old new frame size result

@@ -1,6 +1,5 @@
 -- Where an index is looked for.
 use Rattle.std.specs.Prelude.{◌≡◌, ◌<◌, ◌≤◌, ◌+◌, ℕ, List, length, get_or, Option, Some, None, Contains}
-use Rattle.std.specs.List.{AllWithin}
 use Rattle.segment_files.specs.Contents.{Offset_list}
 use Rattle.segment_set.specs.declared.opened.Opened.{Opened}
 use Rattle.segment_set.specs.Fits.{present_of}

@@ -1,30 +1,39 @@
 -- A log that gets more entries, as a list of its parts.
-use Rattle.std.specs.Prelude.{◌≡◌, ◌⊎◌, ◌+◌, ◌-◌, ◌&&◌, ℕ, Bool, true, false, not, nat_lt, if◌then◌else◌, List, [], ◌∷◌, ◌++◌, length, Contains}
+use Rattle.std.specs.Prelude.{◌≡◌, ◌≤◌, ◌⊎◌, ◌+◌, ◌-◌, ◌&&◌, ℕ, Bool, true, false, not, nat_lt, if◌then◌else◌, List, [], ◌∷◌, ◌++◌, length, All, Contains}
+use Rattle.std.specs.List.{enumerate_from}
 use Rattle.host_types.specs.declared.entry.Entry.{Entry}
 use Rattle.disk_model.specs.declared.file_id.FileId.{FileId}
 use Rattle.disk_model.specs.Image.{Image}
-use Rattle.segment_files.specs.Contents.{frame_bytes, shut_frame_bytes}
-use Rattle.entry_codec.specs.Spelled.{IsInRange, EntryFits}
-use Rattle.segment_files.specs.Parse.{Numbered, Part}
+use Rattle.segment_files.specs.Contents.{MayStandAt, frame_bytes, places_from, shut_frame_bytes}
+use Rattle.segment_files.specs.Parse.{Numbered, Part, frame_room}
 use Rattle.segment_files.specs.Folder.{folder, IsChoice}
 
 -- with these entries behind, in so many bytes
 abbrev pub grown : Part → Numbered → ℕ → Part
 grown tail new long = record tail { last = tail.last + length new; entries = tail.entries ++ new; gate = tail.gate + long }
 
--- a frame with the entry that comes next, and the shut gate behind it
-pub record IsFrameFor (last : ℕ) (frame : List ℕ) (entry : Entry) : Type 0 where
-  pub range : IsInRange (last + 1) entry
-  pub fits : EntryFits entry
-  pub bytes : frame ≡ shut_frame_bytes ((last + 1, entry) ∷ [])
+-- entries with the indexes that come next
+abbrev pub numbered : ℕ → List Entry → Numbered
+numbered last entries = enumerate_from (last + 1) entries
 
--- how many bytes a frame has with this entry alone
-abbrev pub frame_size : ℕ → Entry → ℕ
-frame_size index entry = length (frame_bytes ((index, entry) ∷ []))
+-- a frame with the entries that come next, and the shut gate behind it
+pub record IsFrameFor (last : ℕ) (frame : List ℕ) (entries : List Entry) : Type 0 where
+  pub some : 1 ≤ length entries
+  pub few : length entries ≤ frame_room
+  pub fit : All (λ (e : ℕ × Entry). MayStandAt e.0 e.1) (numbered last entries)
+  pub bytes : frame ≡ shut_frame_bytes (numbered last entries)
 
--- a part with the next entry, in a frame of its own
-abbrev pub with_entry : Part → Entry → Part
-with_entry part entry = grown part ((part.last + 1, entry) ∷ []) (frame_size (part.last + 1) entry)
+-- so, with the places of the entries, counted from its gate
+abbrev pub IsNextFrame : ℕ → List ℕ → List ℕ → Type 0
+IsNextFrame last frame places = (entries : List Entry) × IsFrameFor last frame entries × (places ≡ places_from 5 (numbered last entries))
+
+-- how many bytes a frame has with these entries
+abbrev pub frame_size : Numbered → ℕ
+frame_size entries = length (frame_bytes entries)
+
+-- a part with the next entries, in a frame of their own
+abbrev pub with_entries : Part → List Entry → Part
+with_entries part entries = grown part (numbered part.last entries) (frame_size (numbered part.last entries))
 
 -- a new file with no entries
 abbrev pub new_tail : FileId → ℕ → Part
@@ -54,15 +63,15 @@ new_id greatest parts = record { base = last_in parts + 1; generation = greatest
 abbrev pub begun : ℕ → ℕ → List Part → List Part
 begun size greatest parts = if needs_file parts then parts ++ new_tail (new_id greatest parts) size ∷ [] else parts
 
--- the last of these parts has the next entry
-abbrev pub lengthened : List Part → Entry → List Part
-lengthened [] entry = []
-lengthened (p ∷ []) entry = with_entry p entry ∷ []
-lengthened (p ∷ q ∷ parts) entry = p ∷ lengthened (q ∷ parts) entry
+-- the last of these parts has the next entries
+abbrev pub lengthened : List Part → List Entry → List Part
+lengthened [] entries = []
+lengthened (p ∷ []) entries = with_entries p entries ∷ []
+lengthened (p ∷ q ∷ parts) entries = p ∷ lengthened (q ∷ parts) entries
 
--- the parts with the next entry
-abbrev pub gained : ℕ → ℕ → List Part → Entry → List Part
-gained size greatest parts entry = lengthened (begun size greatest parts) entry
+-- the parts with the next entries, which all stand in one file
+abbrev pub gained : ℕ → ℕ → List Part → List Entry → List Part
+gained size greatest parts entries = lengthened (begun size greatest parts) entries
 
 -- the greatest generation once there is a file
 abbrev pub greatest_after : Bool → ℕ → ℕ
@@ -80,9 +89,9 @@ AreApart parts id = (p : Part) → Contains parts p → p.id ≡ id → ⊥
 abbrev pub HasOrGrows : List ℕ → List Part → Part → Numbered → ℕ → Image → Type 0
 HasOrGrows name front tail new long c = IsChoice (folder name c) (front ++ tail ∷ []) ⊎ IsChoice (folder name c) (front ++ grown tail new long ∷ [])
 
--- an image has the parts as they were, with a file that has room, or with the entry
-abbrev pub HasOrGains : List ℕ → ℕ → ℕ → List Part → Entry → Image → Type 0
-HasOrGains name size greatest parts entry c = IsChoice (folder name c) parts ⊎ (IsChoice (folder name c) (begun size greatest parts) ⊎ IsChoice (folder name c) (gained size greatest parts entry))
+-- an image has the parts as they were, with a file that has room, or with all of the entries
+abbrev pub HasOrGains : List ℕ → ℕ → ℕ → List Part → List Entry → Image → Type 0
+HasOrGains name size greatest parts entries c = IsChoice (folder name c) parts ⊎ (IsChoice (folder name c) (begun size greatest parts) ⊎ IsChoice (folder name c) (gained size greatest parts entries))
 
 -- as they were, or with a file that has room
 abbrev pub HasOrBegins : List ℕ → ℕ → ℕ → List Part → Image → Type 0

@@ -1,6 +1,7 @@
 pub mod Advance
 pub mod Appends
 pub mod ChoiceLaws
+pub mod Exchange
 pub mod Finding
 pub mod Fits
 pub mod Growth
@@ -9,3 +10,4 @@ pub mod Load
 pub mod Sifting
 pub mod Split
 pub mod Tails
+pub mod Views

@@ -4,8 +4,8 @@ use Rattle.std.specs.List.{AllPairs}
 use Rattle.disk_model.specs.declared.file_id.FileId.{FileId}
 use Rattle.disk_model.specs.Image.{Place, Image, IsBelow, place}
 use Rattle.disk_model.specs.View.{View, MayHold, MayLeave, IsListed, LeavesAt, LeavesOnly}
-use Rattle.segment_files.specs.Parse.{Part, Closed, Whole, Damaged}
-use Rattle.segment_files.specs.Folder.{Folder, folder, AreParts, IsFault}
+use Rattle.segment_files.specs.Parse.{Part, Closed}
+use Rattle.segment_files.specs.Folder.{folder, AreParts, IsFault}
 use Rattle.segment_set.specs.declared.opening.OpenError.{OpenError}
 use Rattle.segment_set.specs.declared.opening.OpenError.TheVariants.{Disk as Is_disk, Damaged as Is_damaged, NoMemory as No_memory}
 use Rattle.segment_files.specs.declared.reading.FileFault.{FileFault}

@@ -1,18 +1,18 @@
-// A log gets one entry more, in its last file or in a new one.
-ghost use Rattle.std.specs.Prelude.{◌≡◌, ◌<◌, ◌≤◌, ◌+◌, ◌-◌, ◌↔◌, ℕ, List, [], ◌∷◌, ◌++◌, Some, None, is_none, IsTrue, IsNone, IfSome, IfOk, OnOk};
+// A log gets a frame of entries, in its last file or in a new one.
+ghost use Rattle.std.specs.Prelude.{◌≡◌, ◌<◌, ◌≤◌, ◌+◌, ◌-◌, ◌^◌, ◌↔◌, ℕ, List, [], ◌∷◌, ◌++◌, All, length, Some, None, is_none, IsTrue, IsNone, IfSome, IfOk, OnOk};
 ghost use Rattle.host_types.specs.Limits.{index_limit};
 ghost use Rattle.host_types.specs.declared.entry.Entry.{Entry};
 ghost use Rattle.disk_model.specs.Image.{IsFileId, place};
 ghost use Rattle.disk_model.specs.View.{LeavesOnly, HasCause};
 ghost use Rattle.segment_files.specs.Files.{KeepsOthers};
-ghost use Rattle.segment_files.specs.Contents.{Offset_list, appended_descriptor, descriptor_bytes};
+ghost use Rattle.segment_files.specs.Contents.{Offset_list, appended_descriptor, descriptor_bytes, places_from};
 ghost use Rattle.offset_index.specs.Indexed.{MayFollow};
 ghost use Rattle.segment_files.specs.Parse.{Part, Whole};
 ghost use Rattle.segment_files.specs.Folder.{EachHas, folder};
 ghost use Rattle.segment_set.specs.Appends.{Appends, BeginsOn};
-ghost use Rattle.segment_set.specs.Growth.{AreApart, HasOrGrows, HasOrNew, IsFrameFor, frame_size, new_tail, with_entry};
+ghost use Rattle.segment_set.specs.Growth.{AreApart, HasOrGrows, HasOrNew, IsFrameFor, IsNextFrame, frame_size, new_tail, numbered, with_entries};
 ghost use Rattle.segment_set.specs.Fits.{ArePlaced, Fits, IsAsBefore, IsFileAt, IsMade, IsNewTail, IsPrepared, TailFits, last_of};
-ghost use Rattle.segment_set.specs.Advance.{Advances};
+ghost use Rattle.segment_set.specs.Advance.{Advances, PlacesRise, noted, offsets_from};
 
 use crate::opened::Opened;
 use crate::parts::{GENERATION_LIMIT, Parts};
@@ -23,9 +23,6 @@ use offset_index::Offsets;
 use segment_files::{Descriptor, append_frame, make_tail};
 use std::alloc::Global;
 use std::mem;
-
-/// What stands in front of the first entry of a frame: its gate, and the length of its body.
-const FRAME_HEAD: u64 = 5;
 
 /// What stands behind the gate of a new file: the rest of its descriptor, and a shut gate.
 fn behind_gate(id: FileId, size: u32) -> [u8; 64]
@@ -77,17 +74,17 @@ fn push_frame<D: Disk>(
     frame: &[u8],
 ) -> Result<u64, DiskFault>
     requires fits { IsTrue D.tells → (offsets : Offset_list) × TailFits (D.view disk.old) name.now tail offsets }
-    requires room { tail.last < index_limit }
-    requires frame { (entry : Entry) × IsFrameFor tail.last frame.now entry }
-    ensures longer { IfOk result (λ gate. (tail.gate + 6 ≤ gate) × (gate ≤ tail.gate + 8388613)) }
-    ensures grown { IfOk result (λ gate. IsTrue D.tells → (part : Part) (entry : Entry) → folder name.now (D.view disk.old).reading tail.id ≡ Whole part → IsFrameFor tail.last frame.now entry
-        → IsFileAt (D.view disk.new) name.now tail.id (tail.last + 1) gate tail.size (with_entry part entry)) }
-    ensures any_moment { IsTrue D.tells → (front : List Part) (part : Part) (entry : Entry) → folder name.now (D.view disk.old).reading tail.id ≡ Whole part → IsFrameFor tail.last frame.now entry
-        → AreApart front tail.id → EachHas (D.view disk.old) name.now (front ++ part ∷ []) → LeavesOnly (D.view disk.old) (D.view disk.new) (HasOrGrows name.now front part ((part.last + 1, entry) ∷ []) (frame_size (part.last + 1) entry)) }
-    ensures placed { OnOk result (IsTrue D.tells → (part : Part) (entry : Entry) (offsets : Offset_list) → folder name.now (D.view disk.old).reading tail.id ≡ Whole part → IsFrameFor tail.last frame.now entry
-        → ArePlaced (D.view disk.old) name.now tail.id part offsets → ArePlaced (D.view disk.new) name.now tail.id (with_entry part entry) (offsets ++ (tail.last + 1 - tail.id.base, tail.gate + 5) ∷ [])) }
-    ensures held { OnOk result (IsTrue D.tells → (front : List Part) (part : Part) (entry : Entry) → folder name.now (D.view disk.old).reading tail.id ≡ Whole part → IsFrameFor tail.last frame.now entry
-        → AreApart front tail.id → EachHas (D.view disk.old) name.now (front ++ part ∷ []) → EachHas (D.view disk.new) name.now (front ++ with_entry part entry ∷ [])) }
+    requires frame { (entries : List Entry) × IsFrameFor tail.last frame.now entries }
+    ensures longer { IfOk result (λ gate. (gate + 1 ≡ tail.gate + length frame.now) × (gate ≤ tail.gate + 8388613)) }
+    ensures grown { IfOk result (λ gate. IsTrue D.tells → (part : Part) (entries : List Entry) → folder name.now (D.view disk.old).reading tail.id ≡ Whole part → IsFrameFor tail.last frame.now entries
+        → IsFileAt (D.view disk.new) name.now tail.id (tail.last + length entries) gate tail.size (with_entries part entries)) }
+    ensures any_moment { IsTrue D.tells → (front : List Part) (part : Part) (entries : List Entry) → folder name.now (D.view disk.old).reading tail.id ≡ Whole part → IsFrameFor tail.last frame.now entries
+        → AreApart front tail.id → EachHas (D.view disk.old) name.now (front ++ part ∷ [])
+        → LeavesOnly (D.view disk.old) (D.view disk.new) (HasOrGrows name.now front part (numbered part.last entries) (frame_size (numbered part.last entries))) }
+    ensures placed { OnOk result (IsTrue D.tells → (part : Part) (entries : List Entry) (offsets : Offset_list) → folder name.now (D.view disk.old).reading tail.id ≡ Whole part → IsFrameFor tail.last frame.now entries
+        → ArePlaced (D.view disk.old) name.now tail.id part offsets → ArePlaced (D.view disk.new) name.now tail.id (with_entries part entries) (noted offsets tail (places_from 5 (numbered tail.last entries)))) }
+    ensures held { OnOk result (IsTrue D.tells → (front : List Part) (part : Part) (entries : List Entry) → folder name.now (D.view disk.old).reading tail.id ≡ Whole part → IsFrameFor tail.last frame.now entries
+        → AreApart front tail.id → EachHas (D.view disk.old) name.now (front ++ part ∷ []) → EachHas (D.view disk.new) name.now (front ++ with_entries part entries ∷ [])) }
     ensures others { IsTrue D.tells → KeepsOthers (D.view disk.old) (D.view disk.new) (place name.now tail.id) }
     ensures cause { HasCause (D.faults disk.old) (D.faults disk.new) result }
 {
@@ -98,11 +95,28 @@ fn push_frame<D: Disk>(
 fn note(offsets: &mut Offsets, offset: u64, place: u64)
     requires room { 1 ≤ offsets.old.spare }
     requires rises { MayFollow offsets.old.items (offset, place) }
-    ensures { offsets.new.items ≡ offsets.old.items ++ (offset, place) ∷ [] }
+    ensures items { offsets.new.items ≡ offsets.old.items ++ (offset, place) ∷ [] }
+    ensures spare { offsets.new.spare ≡ offsets.old.spare - 1 }
 {
     match offsets.push(offset, place) {
         Ok(()) => {}
         Err(_) => {}
+    }
+}
+
+/// Notes where entries stand that follow one another from an offset on, each at its place behind a gate.
+fn note_all(offsets: &mut Offsets, first: u64, gate: u64, places: &[u32])
+    requires room { length places.now ≤ offsets.old.spare }
+    requires below { All (λ p. (p.0 < first) × (p.1 < gate)) offsets.old.items }
+    requires rise { PlacesRise 0 places.now }
+    requires last { first + length places.now < 2 ^ 64 }
+    requires end { gate + 2 ^ 32 ≤ 2 ^ 64 }
+    ensures { offsets.new.items ≡ offsets.old.items ++ offsets_from first gate places.now }
+{
+    let mut next = first;
+    for place in places {
+        note(offsets, next, gate + u64::from(*place));
+        next += 1;
     }
 }
 
@@ -201,18 +215,23 @@ impl Parts {
         }
     }
 
-    /// The tail has an entry more, behind whose frame the next gate stands. A file that has its size is sealed.
-    fn advance(&mut self, alloc: Global, tail: Tail, gate: u64)
+    /// The tail has entries more, at these places of the frame at its gate, behind which the next gate stands. A file that has its
+    /// size or more is sealed.
+    fn advance(&mut self, alloc: Global, tail: Tail, gate: u64, places: &[u32])
         requires tail { self.old.tail ≡ Some tail }
-        requires room { tail.last < index_limit }
-        requires gate { (tail.gate + 6 ≤ gate) × (gate ≤ tail.gate + 8388613) }
-        requires prepared { IsPrepared 1 self.old }
-        ensures { Advances self.old self.new tail gate }
+        requires some { 1 ≤ length places.now }
+        requires room { tail.last + length places.now ≤ index_limit }
+        requires gate { gate ≤ tail.gate + 8388613 }
+        requires rise { PlacesRise 0 places.now }
+        requires within { All (λ p. tail.gate + p < gate) places.now }
+        requires prepared { IsPrepared (length places.now) self.old }
+        ensures { Advances self.old self.new tail gate places.now }
     {
         let count = tail.last + 1 - tail.id.base;
-        note(&mut self.offsets, count, tail.gate + FRAME_HEAD);
-        let last = tail.last + 1;
-        if count + 1 < u64::from(tail.size) {
+        note_all(&mut self.offsets, count, tail.gate, places);
+        let more = places.len() as u64;
+        let last = tail.last + more;
+        if count + more < u64::from(tail.size) {
             self.tail = Some(Tail {
                 id: tail.id,
                 last,
@@ -241,48 +260,51 @@ impl Parts {
         disk: &mut D,
         tail: Tail,
         frame: &[u8],
+        places: &[u32],
     ) -> Result<(), DiskFault>
         requires fits { IsTrue D.tells → Fits (D.view disk.old) self.old }
         requires tail { self.old.tail ≡ Some tail }
-        requires room { tail.last < index_limit }
-        requires frame { (entry : Entry) × IsFrameFor tail.last frame.now entry }
-        requires prepared { IsPrepared 1 self.old }
+        requires frame { IsNextFrame tail.last frame.now places.now }
+        requires room { tail.last + length places.now ≤ index_limit }
+        requires prepared { IsPrepared (length places.now) self.old }
         ensures { (size : ℕ) → Appends D.tells (D.view disk.old) (D.view disk.new) (D.faults disk.old) (D.faults disk.new)
-            self.old self.new frame.now size result }
+            self.old self.new frame.now (length places.now) size result }
     {
         match push_frame(disk, &self.name, tail, frame) {
             Ok(gate) => {
-                self.advance(alloc, tail, gate);
+                self.advance(alloc, tail, gate, places);
                 Ok(())
             }
             Err(fault) => Err(fault),
         }
     }
 
-    /// Appends a frame with the next entry, which has the shut gate behind it as its last byte. Where no file has room it makes one of
-    /// this size first, with the next generation. A crash at any moment leaves the log without the entry or with it; from an Ok on it
-    /// is there. Room for it was made by `prepare_append`.
+    /// Appends a frame with the next entries, 1 to 64, which stand at these places of it (`segment_files::frame` makes both). Where no
+    /// file has room it makes one of this size first, with the next generation. All entries go into one file, which may have more than
+    /// its size then. A crash at any moment leaves the log without the entries or with all of them; from an Ok on they are there. Room
+    /// for them was made by `prepare_append`.
     pub fn append<D: Disk>(
         &mut self,
         alloc: Global,
         disk: &mut D,
         frame: &[u8],
+        places: &[u32],
         size: u32,
     ) -> Result<(), DiskFault>
         requires fits { IsTrue D.tells → Fits (D.view disk.old) self.old }
-        requires room { last_of self.old < index_limit }
+        requires frame { IsNextFrame (last_of self.old) frame.now places.now }
+        requires room { last_of self.old + length places.now ≤ index_limit }
         requires generation { self.old.tail ≡ None → self.old.greatest < index_limit }
         requires least { 2 ≤ size }
         requires most { size ≤ 65536 }
-        requires frame { (entry : Entry) × IsFrameFor (last_of self.old) frame.now entry }
-        requires prepared { IsPrepared 1 self.old }
+        requires prepared { IsPrepared (length places.now) self.old }
         ensures { Appends D.tells (D.view disk.old) (D.view disk.new) (D.faults disk.old) (D.faults disk.new)
-            self.old self.new frame.now size result }
+            self.old self.new frame.now (length places.now) size result }
     {
         match self.tail {
-            Some(tail) => self.append_to(alloc, disk, tail, frame),
+            Some(tail) => self.append_to(alloc, disk, tail, frame, places),
             None => match self.begin(disk, size) {
-                Ok(tail) => self.append_to(alloc, disk, tail, frame),
+                Ok(tail) => self.append_to(alloc, disk, tail, frame, places),
                 Err(fault) => Err(fault),
             },
         }

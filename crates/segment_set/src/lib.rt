@@ -3,6 +3,7 @@
 
 mod appends;
 mod choice;
+mod exchange;
 mod laws;
 mod opened;
 mod opening;
@@ -10,6 +11,7 @@ mod parts;
 mod reads;
 mod removals;
 mod tail;
+mod views;
 
 pub use choice::{Choice, choose};
 pub use laws::{
@@ -21,3 +23,4 @@ pub use opened::Opened;
 pub use opening::OpenError;
 pub use parts::{GENERATION_LIMIT, Parts};
 pub use tail::Tail;
+pub use views::PartView;

@@ -22,7 +22,7 @@ use segment_files::read_entry;
 use std::alloc::Global;
 
 /// How many of these files end before the index. It takes a time that grows with the logarithm of their number.
-fn first_reaching(files: &[Opened], index: Index) -> usize
+pub(crate) fn first_reaching(files: &[Opened], index: Index) -> usize
     requires { (from : ℕ) × (are_joined from files.now ≡ true) }
     ensures { IsFirstReaching index files.now result }
 {

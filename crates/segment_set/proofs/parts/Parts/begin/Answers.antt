@@ -1,4 +1,4 @@
-use Rattle.std.proofs.Common.{◌≡◌, ℕ, ◌+◌, List, [], ◌∷◌, ◌++◌, None, Vec, Global, sym, ap, subst, ◌∙◌, arith}
+use Rattle.std.proofs.Common.{◌≡◌, ℕ, ◌+◌, [], ◌∷◌, ◌++◌, None, Vec, Global, sym, ap, subst, ◌∙◌, arith}
 use Rattle.offset_index.specs.Indexed.{Indexed}
 use Rattle.disk_model.specs.declared.file_id.FileId.{FileId}
 use Rattle.disk_model.specs.Image.{place}

@@ -1,5 +1,4 @@
-use Rattle.std.proofs.Common.{◌≡◌, List, Option, sym, ap, ◌∙◌}
-use Rattle.segment_set.specs.declared.opened.Opened.{Opened}
+use Rattle.std.proofs.Common.{Option, sym, ap, ◌∙◌}
 use Rattle.segment_set.specs.declared.tail.Tail.{Tail}
 use Rattle.segment_set.specs.Joined.{last_index_of, last_of_files}
 use Rattle.segment_set.proofs.Joining.{last_more}
