@@ -1,20 +1,20 @@
 -- The log that the files of a host hold, where a disk fits what is remembered of them, and an entry more.
-use Rattle.std.proofs.Common.{◌≡◌, ℕ, ◌+◌, ◌≤◌, false, true, Bool, if◌then◌else◌, is_none, IsTrue, List, [], ◌∷◌, ◌++◌, length, Option, Some, None, refl, sym, ap, subst, ◌∙◌, arith, length-append, Contains}
+use Rattle.std.proofs.Common.{◌≡◌, ℕ, ◌+◌, ◌≤◌, true, Bool, is_none, List, [], ◌∷◌, ◌++◌, length, Option, Some, None, refl, sym, ap, subst, ◌∙◌, arith, length-append, Contains}
 use Rattle.host_types.specs.declared.entry.Entry.{Entry}
 use Rattle.host_types.specs.Decision.{MachineDecision}
 use Rattle.disk_model.specs.Image.{Image}
-use Rattle.disk_model.specs.View.{View, MayLeave}
+use Rattle.disk_model.specs.View.{View}
 use Rattle.segment_files.specs.Parse.{Numbered, Part}
 use Rattle.segment_files.specs.Folder.{AreParts, IsChoice, entries_of, folder}
 use Rattle.segment_set.specs.declared.parts.Parts.{Parts}
 use Rattle.segment_set.specs.declared.tail.Tail.{Tail}
 use Rattle.segment_set.specs.Growth.{begun, gained, greatest_after, needs_file}
-use Rattle.segment_set.specs.Fits.{Fits, IsHeld, cut_of, floor_of, last_of, parts_in}
+use Rattle.segment_set.specs.Fits.{Fits, cut_of, floor_of, last_of, parts_in}
 use Rattle.segment_set.proofs.Known.{sealed_full}
 use Rattle.segment_set.proofs.Tiles.{ended_by, tail_has_room, tiles_by}
 use Rattle.log_model.specs.cleaning.Cleaning.{Cleaned}
-use Rattle.log_model.specs.cleaning.Layout.{Layout, with_entry}
-use Rattle.log_model.specs.hosted.Hosted.{Hosted, hosted_entry, hosted_folded, hosted_quiet, hosted_stored}
+use Rattle.log_model.specs.cleaning.Layout.{with_entry}
+use Rattle.log_model.specs.hosted.Hosted.{hosted_entry, hosted_folded, hosted_quiet, hosted_stored}
 use Rattle.log_model.specs.plain.Admission.{Item}
 use Rattle.log_model.proofs.cleaning.Appends.{append_keeps}
 use Rattle.log_model.proofs.hosted.HostedLogs.{grown, quiet_grows_hosted, whole}
@@ -77,27 +77,27 @@ module _ (d : MachineDecision) (items : List Item) (item : Item) (entry : Entry)
         (let quiet = of.is_quiet in omega (arith, quiet, later))
 
     -- with the entry they hold what is left of the log with the item
-    pub of_gained : AreOf (hosted_form d) (gained size greatest ps entry) (items ++ item ∷ [])
+    pub of_gained : AreOf (hosted_form d) (gained size greatest ps (entry ∷ [])) (items ++ item ∷ [])
     of_gained =
         let w = whole d items in
-        let entries : entries_of ps ++ (length (hosted_stored d items) + 1, entry) ∷ [] ≡ entries_of (gained size greatest ps entry) =
+        let entries : entries_of ps ++ (length (hosted_stored d items) + 1, entry) ∷ [] ≡ entries_of (gained size greatest ps (entry ∷ [])) =
         ap (λ (n : ℕ). entries_of ps ++ (n + 1, entry) ∷ []) w.length ∙ sym (gained_entries size greatest ps (length items) least whole_ps entry) in
         let stored : hosted_stored d items ++ entry ∷ [] ≡ hosted_stored d (items ++ item ∷ []) = ap (λ (e : Entry). hosted_stored d items ++ e ∷ []) is ∙ sym (grown d items item).stored in
         subst (λ (x : Numbered × List Entry × ℕ × ℕ). Cleaned x.0 x.1 (hosted_quiet (hosted_folded d (items ++ item ∷ []))) x.2 x.3)
         (λ i. (entries i, stored i, sym (gained_cut size greatest ps (length items) least whole_ps entry) i, sym (gained_floor size greatest ps (length items) least whole_ps entry) i)) more
 
-    pub stands_gained : (name : List ℕ) (image : Image) → IsChoice (folder name image) (gained size greatest ps entry) → StandsFor (hosted_form d) name image (items ++ item ∷ [])
+    pub stands_gained : (name : List ℕ) (image : Image) → IsChoice (folder name image) (gained size greatest ps (entry ∷ [])) → StandsFor (hosted_form d) name image (items ++ item ∷ [])
     stands_gained name image choice =
         let long : length items + 1 ≡ length (items ++ item ∷ []) = omega (arith, length-append items (item ∷ [])) in
         record {
-          parts = gained size greatest ps entry;
-          are = subst (AreParts (folder name image) (gained size greatest ps entry)) long
+          parts = gained size greatest ps (entry ∷ []);
+          are = subst (AreParts (folder name image) (gained size greatest ps (entry ∷ []))) long
               (record { choice = choice; tile = gained_tiles size greatest ps (length items) least whole_ps entry; ended = gained_ended size greatest ps (length items) least whole_ps entry });
           of = of_gained;
         }
 
 -- how the files lie once an entry was appended
-pub lies_more : (v w : View) (old new : Parts) (size : ℕ) (entry : Entry) → Fits v old → parts_in w.reading new ≡ gained size old.greatest (parts_in v.reading old) entry → new.greatest ≡ greatest_after (is_none old.tail) old.greatest
+pub lies_more : (v w : View) (old new : Parts) (size : ℕ) (entry : Entry) → Fits v old → parts_in w.reading new ≡ gained size old.greatest (parts_in v.reading old) (entry ∷ []) → new.greatest ≡ greatest_after (is_none old.tail) old.greatest
     → layout_in w new ≡ with_entry size (layout_in v old)
 lies_more v w old new size entry fits parts greatest =
     let needs : needs_file (parts_in v.reading old) ≡ is_none old.tail = tail_has_room v old fits in

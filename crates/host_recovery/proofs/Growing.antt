@@ -59,7 +59,7 @@ module _ {D M : Type 0} (d : MachineDecision) (tells : Bool) (view : D → View)
   pub stands_more : (new : HostState D M) → MachineIsLawful d → StandsAt d view cells old items → ItemFits item → IsTrue (is_hosted_admitted d (hosted cells old.core) item)
       → entry ≡ hosted_entry d (hosted cells old.core) item → new.stopped ≡ false
       → hosted cells new.core ≡ replay_entry (hosted_told d) 0 (hosted cells old.core) ((hosted cells old.core).last + 1, entry)
-      → parts_in (view new.disk).reading new.parts ≡ gained old.size old.parts.greatest (parts_in (view old.disk).reading old.parts) entry → IsHeld (view new.disk) new.parts
+      → parts_in (view new.disk).reading new.parts ≡ gained old.size old.parts.greatest (parts_in (view old.disk).reading old.parts) (entry ∷ []) → IsHeld (view new.disk) new.parts
       → StandsAt d view cells new (items ++ item ∷ [])
   stands_more new lawful at fit admitted is runs state parts held =
       let g = grown d items item in
@@ -82,9 +82,9 @@ module _ {D M : Type 0} (d : MachineDecision) (tells : Bool) (view : D → View)
 
   -- what a crash leaves while the entry is stored stands for the log without the item or with it
   pub leaves_more : (w : View) → StandsAt d view cells old items → entry ≡ hosted_entry d (hosted cells old.core) item
-      → LeavesOnly (view old.disk) w (HasOrGains old.parts.name old.size old.parts.greatest (parts_in (view old.disk).reading old.parts) entry) → LeavesOnly (view old.disk) w (StandsOrGains d old.parts.name items item)
+      → LeavesOnly (view old.disk) w (HasOrGains old.parts.name old.size old.parts.greatest (parts_in (view old.disk).reading old.parts) (entry ∷ [])) → LeavesOnly (view old.disk) w (StandsOrGains d old.parts.name items item)
   leaves_more w at is only =
-      weaker (view old.disk) w (HasOrGains old.parts.name old.size old.parts.greatest ps entry) (StandsOrGains d old.parts.name items item) only
+      weaker (view old.disk) w (HasOrGains old.parts.name old.size old.parts.greatest ps (entry ∷ [])) (StandsOrGains d old.parts.name items item) only
       (λ c has. ⊎_elim
       (λ same. inl (stands d old.parts.name c items ps (length items) same (whole_at d tells view cells old items kept t at) refl at.of))
       (λ rest. ⊎_elim

@@ -1,17 +1,16 @@
 -- A list of parts that gets an entry more: what range they have, which entries they hold, and how they lie.
-use Rattle.std.proofs.Common.{◌≡◌, ◌⊎◌, inl, inr, ⊎_elim, ℕ, ◌+◌, ◌-◌, ◌≤◌, ◌<◌, ◌&&◌, Bool, true, false, not, max, nat_lt, if◌then◌else◌, List, [], ◌∷◌, ◌++◌, length, map, refl, sym, ap, subst, ◌∙◌, arith, append_assoc, Contains}
+use Rattle.std.proofs.Common.{◌≡◌, ◌⊎◌, inl, inr, ⊎_elim, ℕ, ◌+◌, ◌≤◌, ◌<◌, ◌&&◌, Bool, true, false, not, max, nat_lt, if◌then◌else◌, List, [], ◌∷◌, ◌++◌, length, map, refl, sym, ap, subst, ◌∙◌, arith, append_assoc, Contains}
 use Rattle.std.proofs.lemmas.List.{append-nil, map-append, length-map}
 use Rattle.std.proofs.lemmas.List.Elements.{Contains-append_left, Contains-push}
 use Rattle.std.proofs.lemmas.Bool.{and_parts, lt-ltb, cases_Bool}
 use Rattle.host_types.specs.declared.entry.Entry.{Entry}
-use Rattle.disk_model.specs.declared.file_id.FileId.{FileId}
 use Rattle.segment_files.specs.Parse.{Numbered, Part}
 use Rattle.segment_files.specs.Folder.{AreEnded, HasLast, IsLastFilled, Tiles, entries_of}
 use Rattle.segment_set.specs.Fits.{cut_of, floor_of}
-use Rattle.segment_set.specs.Growth.{begun, gained, has_room, last_in, lengthened, needs_file, new_id, new_tail, with_entry}
-use Rattle.segment_set.proofs.Images.{here, nothing, one_of}
+use Rattle.segment_set.specs.Growth.{begun, gained, has_room, last_in, lengthened, needs_file, new_id, new_tail, with_entries}
+use Rattle.segment_set.proofs.Images.{here}
 use Rattle.segment_set.proofs.Lying.{same_snoc, there}
-use Rattle.segment_set.proofs.PartLists.{begun_with_room, begun_without, last_by_last, longer_by_last, needs_by_last}
+use Rattle.segment_set.proofs.PartLists.{begun_without, last_by_last, longer_by_last, needs_by_last}
 use Rattle.log_model.specs.cleaning.Layout as lay
 use Rattle.log_model.specs.cleaning.Layout.{Layout, PartLayout}
 use Rattle.host_recovery.specs.Standing.{part_layout}
@@ -178,8 +177,8 @@ module _ (size greatest : ℕ) (ps : List Part) (last : ℕ) (least : 2 ≤ size
     tile_p : Tiles 1 (front ++ p ∷ []) last
     tile_p = subst (λ (l : List Part). Tiles 1 l last) begun_is begun_tiles
 
-    gained_is : gained size greatest ps entry ≡ front ++ with_entry p entry ∷ []
-    gained_is = ap (λ (l : List Part). lengthened l entry) begun_is ∙ longer_by_last front p entry
+    gained_is : gained size greatest ps (entry ∷ []) ≡ front ++ with_entries p (entry ∷ []) ∷ []
+    gained_is = ap (λ (l : List Part). lengthened l (entry ∷ [])) begun_is ∙ longer_by_last front p (entry ∷ [])
 
     p_last : p.last ≡ last
     p_last = tiles_last 1 front p last tile_p
@@ -191,46 +190,46 @@ module _ (size greatest : ℕ) (ps : List Part) (last : ℕ) (least : 2 ≤ size
         back true is = absurd (cc is)
         back false is = refl
 
-    filled : (with_entry p entry).id.base ≤ (with_entry p entry).last
+    filled : (with_entries p (entry ∷ [])).id.base ≤ (with_entries p (entry ∷ [])).last
     filled = omega (arith, tiles_base 1 front p last tile_p)
 
-    pub gained_tiles : Tiles 1 (gained size greatest ps entry) (last + 1)
+    pub gained_tiles : Tiles 1 (gained size greatest ps (entry ∷ [])) (last + 1)
     gained_tiles =
         subst (λ (l : List Part). Tiles 1 l (last + 1)) (sym gained_is)
-        (subst (λ (k : ℕ). Tiles 1 (front ++ with_entry p entry ∷ []) (k + 1)) p_last (tiles_longer 1 front p (with_entry p entry) last tile_p refl filled))
+        (subst (λ (k : ℕ). Tiles 1 (front ++ with_entries p (entry ∷ []) ∷ []) (k + 1)) p_last (tiles_longer 1 front p (with_entries p (entry ∷ [])) last tile_p refl filled))
 
-    pub gained_ended : AreEnded (gained size greatest ps entry)
+    pub gained_ended : AreEnded (gained size greatest ps (entry ∷ []))
     gained_ended = subst AreEnded (sym gained_is) (λ q f. last_one q f)
       where
-        last_one : (q : Part) → IsLastFilled (front ++ with_entry p entry ∷ []) q → HasLast q
+        last_one : (q : Part) → IsLastFilled (front ++ with_entries p (entry ∷ []) ∷ []) q → HasLast q
         last_one q f = go f.back f.are f.empty
           where
-            go : (back : List Part) → front ++ with_entry p entry ∷ [] ≡ f.front ++ q ∷ back → ((r : Part) → Contains back r → r.last < r.id.base) → HasLast q
+            go : (back : List Part) → front ++ with_entries p (entry ∷ []) ∷ [] ≡ f.front ++ q ∷ back → ((r : Part) → Contains back r → r.last < r.id.base) → HasLast q
             go [] are empty written =
-                let is : with_entry p entry ≡ q = (same_snoc front f.front (with_entry p entry) q are).1 in
+                let is : with_entries p (entry ∷ []) ≡ q = (same_snoc front f.front (with_entries p (entry ∷ [])) q are).1 in
                 absurd (cc (ap (λ (r : Part). r.rewritten) is, plain, written))
             go (b ∷ back) are empty written =
                 let l = last_of_list b back in
-                let spread : front ++ with_entry p entry ∷ [] ≡ (f.front ++ q ∷ l.0) ++ l.1 ∷ [] = are ∙ ap (λ (m : List Part). f.front ++ q ∷ m) l.2 ∙ sym (append_assoc f.front (q ∷ l.0) (l.1 ∷ [])) in
-                let is : with_entry p entry ≡ l.1 = (same_snoc front (f.front ++ q ∷ l.0) (with_entry p entry) l.1 spread).1 in
+                let spread : front ++ with_entries p (entry ∷ []) ∷ [] ≡ (f.front ++ q ∷ l.0) ++ l.1 ∷ [] = are ∙ ap (λ (m : List Part). f.front ++ q ∷ m) l.2 ∙ sym (append_assoc f.front (q ∷ l.0) (l.1 ∷ [])) in
+                let is : with_entries p (entry ∷ []) ≡ l.1 = (same_snoc front (f.front ++ q ∷ l.0) (with_entries p (entry ∷ [])) l.1 spread).1 in
                 let none = empty l.1 (subst (λ (m : List Part). Contains m l.1) (sym l.2) (Contains-push l.0 l.1)) in
                 let short = subst (λ (r : Part). r.last < r.id.base) (sym is) none in
                 absurd (omega (arith, short, filled))
 
-    pub gained_entries : entries_of (gained size greatest ps entry) ≡ entries_of ps ++ (last + 1, entry) ∷ []
+    pub gained_entries : entries_of (gained size greatest ps (entry ∷ [])) ≡ entries_of ps ++ (last + 1, entry) ∷ []
     gained_entries =
         ap entries_of gained_is
-        ∙ entries_append front (with_entry p entry ∷ [])
+        ∙ entries_append front (with_entries p (entry ∷ []) ∷ [])
         ∙ ap (λ (l : Numbered). entries_of front ++ l) (append-nil (p.entries ++ (p.last + 1, entry) ∷ []))
         ∙ sym (append_assoc (entries_of front) p.entries ((p.last + 1, entry) ∷ []))
         ∙ ap (λ (l : Numbered). l ++ (p.last + 1, entry) ∷ []) (ap (λ (l : Numbered). entries_of front ++ l) (sym (append-nil p.entries)) ∙ sym (entries_append front (p ∷ [])) ∙ sym (ap entries_of begun_is) ∙ begun_entries)
         ∙ ap (λ (k : ℕ). entries_of ps ++ (k + 1, entry) ∷ []) p_last
 
-    pub gained_cut : cut_of (gained size greatest ps entry) ≡ cut_of ps
-    gained_cut = ap cut_of gained_is ∙ cut_same front p (with_entry p entry) refl ∙ sym (ap cut_of begun_is) ∙ begun_cut
+    pub gained_cut : cut_of (gained size greatest ps (entry ∷ [])) ≡ cut_of ps
+    gained_cut = ap cut_of gained_is ∙ cut_same front p (with_entries p (entry ∷ [])) refl ∙ sym (ap cut_of begun_is) ∙ begun_cut
 
-    pub gained_floor : floor_of (gained size greatest ps entry) ≡ floor_of ps
-    gained_floor = ap floor_of gained_is ∙ floor_same front p (with_entry p entry) refl ∙ sym (ap floor_of begun_is) ∙ begun_floor
+    pub gained_floor : floor_of (gained size greatest ps (entry ∷ [])) ≡ floor_of ps
+    gained_floor = ap floor_of gained_is ∙ floor_same front p (with_entries p (entry ∷ [])) refl ∙ sym (ap floor_of begun_is) ∙ begun_floor
 
 -- ---- HOW THEY LIE
 
@@ -250,12 +249,12 @@ last_lies [] = refl
 last_lies (p ∷ []) = refl
 last_lies (p ∷ q ∷ ps) = last_lies (q ∷ ps)
 
-one_longer : (p : Part) (entry : Entry) → part_layout (with_entry p entry) ≡ lay.longer (part_layout p)
+one_longer : (p : Part) (entry : Entry) → part_layout (with_entries p (entry ∷ [])) ≡ lay.longer (part_layout p)
 one_longer p entry =
     let present : map (λ (e : ℕ × Entry). e.0) (p.entries ++ (p.last + 1, entry) ∷ []) ≡ map (λ (e : ℕ × Entry). e.0) p.entries ++ (p.last + 1) ∷ [] = map-append (λ (e : ℕ × Entry). e.0) p.entries ((p.last + 1, entry) ∷ []) in
     λ i. record { base = p.id.base; last = p.last + 1; present = present i; cut = p.cut; floor = p.floor; generation = p.id.generation; size = p.size; rewritten = p.rewritten }
 
-longer_lies : (ps : List Part) (entry : Entry) → map part_layout (lengthened ps entry) ≡ lay.lengthened (map part_layout ps)
+longer_lies : (ps : List Part) (entry : Entry) → map part_layout (lengthened ps (entry ∷ [])) ≡ lay.lengthened (map part_layout ps)
 longer_lies [] entry = refl
 longer_lies (p ∷ []) entry = ap (λ (l : PartLayout). l ∷ []) (one_longer p entry)
 longer_lies (p ∷ q ∷ ps) entry = ap (λ (l : List PartLayout). part_layout p ∷ l) (longer_lies (q ∷ ps) entry)
@@ -277,7 +276,7 @@ begun_lies size greatest ps = ⊎_elim
     ∙ sym (ap (λ (t : Bool). if t then record { parts = map part_layout ps ++ lay.new_part size (lay.last_in (map part_layout ps) + 1) (greatest + 1) ∷ []; greatest = greatest + 1 } else layout ps greatest) there_too))
     (cases_Bool (needs_file ps))
 
-pub gained_lies : (size greatest : ℕ) (ps : List Part) (entry : Entry) → layout (gained size greatest ps entry) (if needs_file ps then greatest + 1 else greatest) ≡ lay.with_entry size (layout ps greatest)
+pub gained_lies : (size greatest : ℕ) (ps : List Part) (entry : Entry) → layout (gained size greatest ps (entry ∷ [])) (if needs_file ps then greatest + 1 else greatest) ≡ lay.with_entry size (layout ps greatest)
 gained_lies size greatest ps entry =
     ap (λ (l : List PartLayout). record { parts = l; greatest = if needs_file ps then greatest + 1 else greatest }) (longer_lies (begun size greatest ps) entry)
     ∙ ap (λ (l : Layout). record { parts = lay.lengthened l.parts; greatest = l.greatest }) (begun_lies size greatest ps)

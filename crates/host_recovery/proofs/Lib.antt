@@ -10,3 +10,4 @@ pub mod Reopenings
 pub mod Replaying
 pub mod Staying
 pub mod Stores
+pub mod Viewing

@@ -96,18 +96,18 @@ module _ (old new : Parts) (same : IsAsBefore old new) where
   pub appends_from : (v w : View) (after : Parts) (frame : List ℕ) (size : ℕ) {T : Type 0} (result : Result T DiskFault) → AppendsOn v w new after frame size result → AppendsOn v w old after frame size result
   appends_from v w after frame size result a = record {
     fits = a.fits;
-    parts = on_ok_weaker result (λ parts entry f. parts entry (frame_at entry f) ∙ (λ i. gained size (same.greatest i) (same_parts v.reading i) entry)) a.parts;
+    parts = on_ok_weaker result (λ parts entries f. parts entries (frame_at entries f) ∙ (λ i. gained size (same.greatest i) (same_parts v.reading i) entries)) a.parts;
     alone = on_ok_weaker result (λ then alone. then (same_alone v alone)) a.alone;
     held = on_ok_weaker result (λ then held. then (same_held v held)) a.held;
-    any_moment = λ held entry f.
-        subst (λ (x : List ℕ × ℕ × List Part). LeavesOnly v w (HasOrGains x.0 size x.1 x.2 entry)) (λ i. (same.name i, same.greatest i, same_parts v.reading i))
-        (a.any_moment (same_held v held) entry (frame_at entry f));
+    any_moment = λ held entries f.
+        subst (λ (x : List ℕ × ℕ × List Part). LeavesOnly v w (HasOrGains x.0 size x.1 x.2 entries)) (λ i. (same.name i, same.greatest i, same_parts v.reading i))
+        (a.any_moment (same_held v held) entries (frame_at entries f));
     empty = λ held. subst (IsEmptyWhereNone w) same.name (a.empty (same_held v held));
     others = subst (KeepsNames v w) same.name a.others;
   }
     where
-      frame_at : (entry : Entry) → IsFrameFor (last_of old) frame entry → IsFrameFor (last_of new) frame entry
-      frame_at entry f = subst (λ (k : ℕ). IsFrameFor k frame entry) (sym same_last) f
+      frame_at : (entries : List Entry) → IsFrameFor (last_of old) frame entries → IsFrameFor (last_of new) frame entries
+      frame_at entries f = subst (λ (k : ℕ). IsFrameFor k frame entries) (sym same_last) f
 
 -- what was left on the way, and then while a file was read
 pub left_then : (v0 v w : View) (P : Image → Type 0) → IsSound v → LeavesOnly v0 v P → LeavesAt v w (MayHold v) → LeavesOnly v0 w P

@@ -1,4 +1,5 @@
 pub mod Answers
+pub mod Census
 pub mod HostState
 pub mod Logs
 pub mod FileLayout

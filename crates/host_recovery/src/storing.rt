@@ -3,7 +3,7 @@ ghost use Rattle.std.specs.Prelude.{◌≡◌, ◌<◌, ◌+◌, List, [], ◌�
 ghost use Rattle.host_types.specs.Limits.{index_limit};
 ghost use Rattle.host_types.specs.Ranges.{EntryFits, IsInRange};
 ghost use Rattle.disk_model.specs.View.{LeavesOnly};
-ghost use Rattle.segment_files.specs.Contents.{shut_frame_bytes};
+ghost use Rattle.segment_files.specs.Contents.{places_from, shut_frame_bytes};
 ghost use Rattle.segment_set.specs.Fits.{IsEmptyWhereNone, IsHeld, KeepsNames, parts_in};
 ghost use Rattle.segment_set.specs.Growth.{HasOrGains, gained};
 ghost use Rattle.log_model.specs.plain.Admission.{Admitted, Item, Offered, Expired};
@@ -80,14 +80,15 @@ fn end_of(time: Time, session: Index) -> Entry
     }
 }
 
-/// Makes the frame of an entry.
+/// Makes the frame of an entry, and tells the place of the entry in it.
 fn put_frame(
     frame: &mut Vec<u8>,
     places: &mut Vec<u32>,
     index: Index,
     entry: &Entry,
 ) -> Result<(), NoMemory>
-    ensures { OnOk result (frame.new.items ≡ shut_frame_bytes ((index, entry.now) ∷ [])) }
+    ensures frame { OnOk result (frame.new.items ≡ shut_frame_bytes ((index, entry.now) ∷ [])) }
+    ensures places { OnOk result (places.new.items ≡ places_from 5 ((index, entry.now) ∷ [])) }
 {
     frame.clear();
     segment_files::frame(&[(index, entry)], frame, places)
@@ -105,11 +106,11 @@ impl<D: Disk, M: Machine> Host<D, M> {
         ensures runs { OnOk result (self.new.stopped ≡ false) }
         ensures state { OnOk result (hosted M.cells self.new.core ≡ replay_entry (hosted_told M.decides) 0 (hosted M.cells self.old.core) ((hosted M.cells self.old.core).last + 1, entry)) }
         ensures confirmed { OnOk result (confirmed_positions self.new.core.sessions.beside ≡ confirmed_by ((hosted M.cells self.old.core).last + 1) entry.body (confirmed_positions self.old.core.sessions.beside)) }
-        ensures parts { OnOk result (IsTrue D.tells → parts_in (D.view self.new.disk).reading self.new.parts ≡ gained self.old.size self.old.parts.greatest (parts_in (D.view self.old.disk).reading self.old.parts) entry) }
+        ensures parts { OnOk result (IsTrue D.tells → parts_in (D.view self.new.disk).reading self.new.parts ≡ gained self.old.size self.old.parts.greatest (parts_in (D.view self.old.disk).reading self.old.parts) (entry ∷ [])) }
         ensures layout { OnOk result (IsTrue D.tells → layout_in (D.view self.new.disk) self.new.parts ≡ with_entry self.old.size (layout_in (D.view self.old.disk) self.old.parts)) }
         ensures held { OnOk result (IsTrue D.tells → IsHeld (D.view self.old.disk) self.old.parts → IsHeld (D.view self.new.disk) self.new.parts) }
         ensures any_moment { IsTrue D.tells → IsHeld (D.view self.old.disk) self.old.parts
-            → LeavesOnly (D.view self.old.disk) (D.view self.new.disk) (HasOrGains self.old.parts.name self.old.size self.old.parts.greatest (parts_in (D.view self.old.disk).reading self.old.parts) entry) }
+            → LeavesOnly (D.view self.old.disk) (D.view self.new.disk) (HasOrGains self.old.parts.name self.old.size self.old.parts.greatest (parts_in (D.view self.old.disk).reading self.old.parts) (entry ∷ [])) }
         ensures empty { IsTrue D.tells → IsHeld (D.view self.old.disk) self.old.parts → IsEmptyWhereNone (D.view self.new.disk) self.old.parts.name }
         ensures others { IsTrue D.tells → KeepsNames (D.view self.old.disk) (D.view self.new.disk) self.old.parts.name }
         ensures error { IfErr result IsStoreError }
@@ -140,10 +141,7 @@ impl<D: Disk, M: Machine> Host<D, M> {
                 return Err(HostError::NoMemory);
             }
         };
-        match self
-            .parts
-            .append(alloc, &mut self.disk, &self.frame, self.size)
-        {
+        match self.parts.append(alloc, &mut self.disk, &self.frame, &self.places, self.size) {
             Ok(()) => {
                 self.core.apply(index, entry, prepared);
                 Ok(())

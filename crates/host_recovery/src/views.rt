@@ -1,9 +1,11 @@
 // What a host shows.
-ghost use Rattle.std.specs.Prelude.{◌≡◌, true, List, length, map, is_none, IsTrue, IfOk};
+ghost use Rattle.std.specs.Prelude.{◌≡◌, false, true, List, length, map, is_none, IsTrue, IfOk};
 ghost use Rattle.disk_model.specs.Image.{Image};
 ghost use Rattle.disk_model.specs.View.{MayLeave};
 ghost use Rattle.segment_set.specs.Fits.{IsEmptyWhereNone};
+ghost use Rattle.segment_set.specs.Views.{LieFrom};
 ghost use Rattle.log_model.specs.cleaning.Layout.{alone, needs_file};
+ghost use Rattle.host_recovery.specs.Census.{census_of};
 ghost use Rattle.host_recovery.specs.FileLayout.{LiesAlone};
 ghost use Rattle.host_recovery.specs.Logs.{StandsFor, hosted_form};
 ghost use Rattle.host_recovery.specs.Standing.{StandsAt, layout_in};
@@ -19,6 +21,7 @@ use crate::host::Host;
 use disk_model::Disk;
 use host_types::{Index, Key, NoMemory, Op, Reply, Time};
 use machine::{Machine, Refuse};
+use segment_set::PartView;
 use session_table::SessionView;
 use std::alloc::Global;
 
@@ -57,6 +60,14 @@ impl<D: Disk, M: Machine> Host<D, M> {
         ensures { result ≡ hosted_quiet (hosted M.cells self.now.core) }
     {
         self.core.quiet()
+    }
+
+    /// How the log lies in its files: each part, by rising base.
+    pub fn census(&self) -> Result<Vec<PartView>, NoMemory>
+        ensures census { IfOk result (λ list. self.now.stopped ≡ false → IsTrue D.tells → list.items ≡ census_of (layout_in (D.view self.now.disk) self.now.parts).parts) }
+        ensures lie { IfOk result (λ list. LieFrom 1 list.items) }
+    {
+        self.parts.views()
     }
 
     /// Whether the disk failed, or a call of the disk found no memory.
