@@ -1,5 +1,6 @@
 pub mod BeginningLemmas
 pub mod CallLemmas
+pub mod CensusLemmas
 pub mod ClientLemmas
 mod Examples
 pub mod ExpiringLemmas

@@ -41,6 +41,7 @@ clients_stay size run (commands.Offer o) isnt =
     ∙ expired_stay size _ run o.time
 clients_stay size run (commands.Ask name op) isnt = refl
 clients_stay size run (commands.Take session) isnt = absurd (cc isnt)
+clients_stay size run commands.Census isnt = refl
 clients_stay size run commands.Quiet isnt = refl
 clients_stay size run commands.Reopen isnt = refl
 

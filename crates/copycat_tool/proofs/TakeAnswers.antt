@@ -45,7 +45,7 @@ module _ {D : Type 0} (view : D → View) (files : Files) (old new : HostState D
   at_rest = rest_as view files run (changed files.size run this.does) (view old.disk) (view new.disk) (ap view still.disk) same_log same_layout at.rest
 
   -- its lines were written or not
-  put_lines : (written written' : Option (List ℕ)) (sink sink' : ℕ) → {T : Type 0} (r : Result T Ending) → OnOk r (IsAt view files new (changed files.size run this.does)) → ArePut written written' sink sink' this.lines r → Answers view files (this ∷ []) old new run written written' r
+  pub put_lines : (written written' : Option (List ℕ)) (sink sink' : ℕ) → {T : Type 0} (r : Result T Ending) → OnOk r (IsAt view files new (changed files.size run this.does)) → ArePut written written' sink sink' this.lines r → Answers view files (this ∷ []) old new run written written' r
   put_lines written written' sink sink' (Ok x) there put = record { at = there; did = did; wrote = wrote_as written written' _ _ (sym (append-nil (printed_lines this.lines))) put }
   put_lines written written' sink sink' (Err WriteFault) there put = λ rest. record {
     text = take put.0.0 (printed_lines this.lines);

@@ -1,3 +1,4 @@
+pub mod Census
 pub mod ClientTakes
 pub mod Closing
 pub mod Endings

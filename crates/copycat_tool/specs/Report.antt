@@ -13,6 +13,7 @@ use Rattle.script_text.specs.declared.printed.Printed.TheVariants as prints
 use Rattle.script_text.specs.Printing.{printed_text}
 use Rattle.log_model.specs.plain.Admission.{Item, Offered, Expired, Admission, Admitted, Repeats, Refused, Expiry, Expires, Not_now, admits, expires, first_refusal}
 use Rattle.host_recovery.specs.Answers.{filed, finds_file}
+use Rattle.host_recovery.specs.Census.{census_of}
 use Rattle.log_model.specs.plain.Commands.{plain_look}
 use Rattle.log_model.specs.cleaning.Layout.{Layout, alone, needs_file, with_entry}
 use Rattle.log_model.specs.plain.Plain.{Session, session_of}
@@ -26,6 +27,7 @@ use Rattle.copycat_tool.specs.declared.ending.Ending.{Ending}
 use Rattle.copycat_tool.specs.declared.ending.Ending.TheVariants.{Done, Fault, TooLong, ReadFault, WriteFault, DiskFault, NoMemory, Damaged}
 use Rattle.copycat_tool.specs.declared.lines.Command.{Command}
 use Rattle.copycat_tool.specs.declared.lines.Command.TheVariants as commands
+use Rattle.copycat_tool.specs.Census.{census_lines}
 use Rattle.copycat_tool.specs.Script.{lines, line_limit, script_limit, command}
 
 -- What a run stands at: the log, how it lies in files, up to which event each open session has confirmed its events, and up to which
@@ -160,6 +162,9 @@ shown_as (Err why) = prints.Refused why
 abbrev pub look_answer : Run → List ℕ → Op → Act
 look_answer run name op = says (shown_as (plain_look (folded run.log) name op))
 
+abbrev pub census_answer : Run → Act
+census_answer run = record { does = Nothing; lines = census_lines (census_of run.layout.parts) }
+
 abbrev pub quiet_answer : Run → Act
 quiet_answer run = says (prints.Quiet (quiet run.log))
 
@@ -202,6 +207,7 @@ answers_to size run commands.Skip = []
 answers_to size run (commands.Offer o) = offered size run o
 answers_to size run (commands.Ask name op) = look_answer run name op ∷ []
 answers_to size run (commands.Take session) = take_answer run session ∷ []
+answers_to size run commands.Census = census_answer run ∷ []
 answers_to size run commands.Quiet = quiet_answer run ∷ []
 answers_to size run commands.Reopen = reopening run ∷ []
 

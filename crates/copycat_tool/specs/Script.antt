@@ -5,7 +5,7 @@ use Rattle.script_text.specs.declared.line.Line.{Line}
 use Rattle.script_text.specs.declared.line.Line.TheVariants as lines_of
 use Rattle.script_text.specs.Reading.{line_read}
 use Rattle.copycat_tool.specs.declared.lines.Command.{Command}
-use Rattle.copycat_tool.specs.declared.lines.Command.TheVariants.{Skip, Offer, Ask, Take, Quiet, Reopen}
+use Rattle.copycat_tool.specs.declared.lines.Command.TheVariants.{Skip, Offer, Ask, Take, Census, Quiet, Reopen}
 
 -- the lines that have ended, and what stands behind the last line feed
 pub record Lines : Type 0 where
@@ -40,6 +40,7 @@ command_of lines_of.Skip = Some Skip
 command_of (lines_of.Offer o) = Some (Offer o)
 command_of (lines_of.Ask name op) = Some (Ask name op)
 command_of (lines_of.Take session) = Some (Take session)
+command_of lines_of.Census = Some Census
 command_of lines_of.Quiet = Some Quiet
 command_of lines_of.Reopen = Some Reopen
 command_of _ = None

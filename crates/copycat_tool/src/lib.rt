@@ -3,6 +3,7 @@
 
 mod answers;
 mod calls;
+mod census;
 mod clients;
 mod closing;
 mod ending;

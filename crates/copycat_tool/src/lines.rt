@@ -22,6 +22,8 @@ pub enum Command {
     Ask { name: Key, op: Op },
     /// To hand the next batch to the client of this session.
     Take { session: Index },
+    /// How the log lies in its files.
+    Census,
     /// The index up to which nobody waits for a reply or an event.
     Quiet,
     /// To close the log and open it again.
@@ -39,6 +41,7 @@ fn command_of(line: Line) -> Option<Command>
         Line::Offer(offer) => Some(Command::Offer(offer)),
         Line::Ask { name, op } => Some(Command::Ask { name, op }),
         Line::Take { session } => Some(Command::Take { session }),
+        Line::Census => Some(Command::Census),
         Line::Quiet => Some(Command::Quiet),
         Line::Reopen => Some(Command::Reopen),
         _ => None,

@@ -7,6 +7,7 @@ ghost use Rattle.copycat_tool.specs.ClientTakes.{HasClients};
 ghost use Rattle.copycat_tool.specs.Turning.{Answers, Expires_all, IsPart, Turns};
 
 use crate::calls::{Expiring, expire_next, look, make_offer, quiet_of, reopen};
+use crate::census::answer_census;
 use crate::clients::Clients;
 use crate::ending::Ending;
 use crate::lines::{Command, read_command};
@@ -141,6 +142,7 @@ fn answer_command<D: Disk, O: Sink>(
         Command::Offer(one) => answer_line_of_offer(alloc, one, host, text, out),
         Command::Ask { name, op } => answer_look(alloc, name, op, host, text, out),
         Command::Take { session } => answer_take(*session, host, clients, text, out),
+        Command::Census => answer_census(host, text, out),
         Command::Quiet => put_answer(quiet_of(host), text, out),
         Command::Reopen => answer_reopen(alloc, host, text, out),
     }

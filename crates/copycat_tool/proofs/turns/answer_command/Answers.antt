@@ -59,6 +59,17 @@ returns-in-Reopen g c = record {
   keeps = search rules;
 }
 
+pub returns-in-Census : goal.returns-in-Census
+returns-in-Census g c = record {
+  runs = search rules;
+  told = λ t files run at clients. (
+    subst (λ (k : Command). Answers g.D.Disk.view files (answers_to files.size run k) c.args.host.now c.answer_census.new.host run (g.O.Sink.written c.args.out.now) (g.O.Sink.written c.answer_census.new.out) c.answer_census.result) (sym c.in-Census.is)
+        (c.answer_census.ensures.told t files run at),
+    still_as files.size run c.args.asked.now _ c.args.clients.now c.answer_census.result c.in-Census.is refl clients,
+  );
+  keeps = search rules;
+}
+
 pub returns-in-Quiet : goal.returns-in-Quiet
 returns-in-Quiet g c = record {
   runs = search rules;
