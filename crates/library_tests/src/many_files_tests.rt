@@ -1,11 +1,11 @@
 // Logs of many files: appended to until they roll, and opened from folders that are made by hand.
-ghost use Rattle.std.specs.Prelude.{◌≡◌, ◌<◌, ◌≤◌, IsTrue};
+ghost use Rattle.std.specs.Prelude.{◌≡◌, ◌+◌, ◌≤◌, [], length, IsTrue};
 ghost use Rattle.host_types.specs.Limits.{index_limit};
-ghost use Rattle.host_types.specs.declared.entry.Entry.{Entry};
+ghost use Rattle.host_types.specs.Ranges.{EntryFits};
 ghost use Rattle.host_types.specs.declared.entry.Body.TheVariants.{Tick};
 ghost use Rattle.disk_model.specs.Image.{IsFileId};
 ghost use Rattle.segment_set.specs.Fits.{Fits};
-ghost use Rattle.segment_set.specs.Growth.{IsFrameFor};
+ghost use Rattle.segment_set.specs.Growth.{IsNextFrame};
 
 use crate::checks::{log_name, same};
 use disk_memory::MemoryDisk;
@@ -232,6 +232,7 @@ const ROLLING: Shape = (&[(1, 1, 2), (3, 2, 4)], Some((5, 3, 5)), &[1, 2, 3, 4, 
 fn tick(time: u64) -> Entry
     ensures time { result.time ≡ time }
     ensures body { result.body ≡ Tick }
+    ensures fits { EntryFits result }
 {
     Entry {
         time,
@@ -385,6 +386,25 @@ fn load<D: Disk>(rt: &impl Abort, alloc: Global, disk: &mut D, name: &LogName) -
     Parts::load(alloc, disk, name).expect(rt, "a log")
 }
 
+/// Asserts what is read at an index: a tick of this time, or nothing.
+fn finds<D: Disk>(
+    rt: &impl Abort,
+    alloc: Global,
+    disk: &mut D,
+    parts: &Parts,
+    index: Index,
+    time: Option<u64>,
+)
+    requires { IsTrue D.tells → Fits (D.view disk.old) parts.now }
+{
+    let wanted = match time {
+        Some(time) => Some(tick(time)),
+        None => None,
+    };
+    let found = parts.read(alloc, disk, index).expect(rt, "a call");
+    same(rt, found, wanted);
+}
+
 /// Asserts what is read at an index of a log that is opened again.
 fn reads<D: Disk>(
     rt: &impl Abort,
@@ -392,13 +412,20 @@ fn reads<D: Disk>(
     disk: &mut D,
     name: &LogName,
     index: Index,
-    is_there: bool,
+    time: Option<u64>,
 ) {
     let parts = load(rt, alloc, disk, name);
-    let wanted = if is_there { Some(tick(index)) } else { None };
-    let found = parts.read(alloc, disk, index).expect(rt, "a call");
-    same(rt, found, wanted);
+    finds(rt, alloc, disk, &parts, index, time);
     drop(parts);
+}
+
+/// The time of the tick of an index, if it is one of these.
+fn time_if_present(present: &[u64], index: Index) -> Option<u64> {
+    if present.contains(&index) {
+        Some(index)
+    } else {
+        None
+    }
 }
 
 /// Asserts that the entries of these indexes are read, and none between them, nor behind them.
@@ -410,10 +437,17 @@ fn reads_all<D: Disk>(
     present: &[u64],
 ) {
     for index in 0..12 {
-        reads(rt, alloc, disk, name, index, present.contains(&index));
+        reads(
+            rt,
+            alloc,
+            disk,
+            name,
+            index,
+            time_if_present(present, index),
+        );
     }
     for index in present {
-        reads(rt, alloc, disk, name, *index, true);
+        reads(rt, alloc, disk, name, *index, Some(*index));
     }
 }
 
@@ -473,34 +507,77 @@ fn nothing_is_removed_where_a_file_is_damaged(rt: HostRuntime) {
     }
 }
 
-/// A frame with a tick as the entry behind the last.
-fn next_frame(rt: &impl Abort, alloc: Global, last: Index) -> Vec<u8>
-    requires { last < index_limit }
-    ensures { (entry : Entry) × IsFrameFor last result.items entry }
+/// Makes a frame with so many ticks of one time as the entries behind the last, and tells their places.
+fn put_frame(
+    rt: &impl Abort,
+    alloc: Global,
+    last: Index,
+    count: u32,
+    entry: &Entry,
+    bytes: &mut Vec<u8>,
+    places: &mut Vec<u32>,
+)
+    requires tick { entry.now.body ≡ Tick }
+    requires fits { EntryFits entry.now }
+    requires some { 1 ≤ count }
+    requires few { count ≤ 64 }
+    requires room { last + count ≤ index_limit }
+    requires none { bytes.old.items ≡ [] }
+    ensures frame { IsNextFrame last bytes.new.items places.new.items }
+    ensures count { length places.new.items ≡ count }
 {
-    let entry = tick(last + 1);
-    let mut bytes = Vec::new(alloc);
-    let mut places = Vec::new(alloc);
-    frame(&[(last + 1, &entry)], &mut bytes, &mut places).expect(rt, "memory");
-    drop(places);
-    drop(entry);
-    bytes
+    let mut entries = Vec::new(alloc);
+    for n in 0..count {
+        entries
+            .push((last + 1 + u64::from(n), entry))
+            .expect(rt, "memory");
+    }
+    frame(&entries, bytes, places).expect(rt, "memory");
+    drop(entries);
 }
 
-/// Appends a tick as the next entry.
+/// Appends so many ticks of a time as the next entries, in one frame.
+fn put_all<D: Disk>(
+    rt: &impl Abort,
+    alloc: Global,
+    disk: &mut D,
+    parts: &mut Parts,
+    count: u32,
+    time: u64,
+    size: u32,
+)
+    requires fits { IsTrue D.tells → Fits (D.view disk.old) parts.old }
+    requires some { 1 ≤ count }
+    requires few { count ≤ 64 }
+    requires least { 2 ≤ size }
+    requires most { size ≤ 65536 }
+    ensures { IsTrue D.tells → Fits (D.view disk.new) parts.new }
+{
+    parts.prepare_append(count).expect(rt, "memory");
+    let last = parts.last();
+    assert!(rt; last <= LIMIT - u64::from(count));
+    assert!(rt; parts.greatest < LIMIT);
+    let entry = tick(time);
+    let mut bytes = Vec::new(alloc);
+    let mut places = Vec::new(alloc);
+    put_frame(rt, alloc, last, count, &entry, &mut bytes, &mut places);
+    drop(entry);
+    parts
+        .append(alloc, disk, &bytes, &places, size)
+        .expect(rt, "a call");
+    drop(places);
+    drop(bytes);
+}
+
+/// Appends a tick as the next entry, whose time is its index.
 fn put<D: Disk>(rt: &impl Abort, alloc: Global, disk: &mut D, parts: &mut Parts, size: u32)
     requires fits { IsTrue D.tells → Fits (D.view disk.old) parts.old }
     requires least { 2 ≤ size }
     requires most { size ≤ 65536 }
     ensures { IsTrue D.tells → Fits (D.view disk.new) parts.new }
 {
-    parts.prepare_append(1).expect(rt, "memory");
-    let last = parts.last();
-    assert!(rt; last < LIMIT);
-    assert!(rt; parts.greatest < LIMIT);
-    let bytes = next_frame(rt, alloc, last);
-    parts.append(alloc, disk, &bytes, size).expect(rt, "a call");
-    drop(bytes);
+    let time = parts.last().saturating_add(1);
+    put_all(rt, alloc, disk, parts, 1, time, size);
 }
 
 fn put_five<D: Disk>(rt: &impl Abort, alloc: Global, disk: &mut D, parts: &mut Parts)
@@ -564,6 +641,64 @@ fn a_file_keeps_its_size(rt: HostRuntime) {
     same(&rt, tail_of(&parts), Some((7, 4, 9)));
     drop(parts);
     lists(&rt, &mut disk, &name, &[(1, 1), (3, 2), (5, 3), (7, 4)]);
+    drop(disk);
+}
+
+/// Four frames in files of four entries: the second one fills its file beyond its size, and the third one does so with a new file.
+fn put_frames<D: Disk>(rt: &impl Abort, alloc: Global, disk: &mut D, parts: &mut Parts)
+    requires { IsTrue D.tells → Fits (D.view disk.old) parts.old }
+    ensures { IsTrue D.tells → Fits (D.view disk.new) parts.new }
+{
+    put_all(rt, alloc, disk, parts, 3, 10, 4);
+    put_all(rt, alloc, disk, parts, 2, 20, 4);
+    put_all(rt, alloc, disk, parts, 64, 30, 4);
+    put_all(rt, alloc, disk, parts, 2, 40, 4);
+}
+
+/// The time of the entry of this index then.
+fn time_in_frames(index: Index) -> Option<u64> {
+    match index {
+        1..=3 => Some(10),
+        4..=5 => Some(20),
+        6..=69 => Some(30),
+        70..=71 => Some(40),
+        _ => None,
+    }
+}
+
+/// Asserts what the log is then.
+fn has_frames(rt: &impl Abort, parts: &Parts) {
+    are_sealed(rt, &parts.sealed, &[(1, 1, 5), (6, 2, 69)]);
+    same(rt, tail_of(parts), Some((70, 3, 71)));
+    for index in 0..71 {
+        same(rt, parts.next_present(index), Some(index + 1));
+    }
+    same(rt, parts.next_present(71), None);
+}
+
+#[test]
+fn frames_of_several_entries_are_appended(rt: HostRuntime) {
+    let name = log_name(&rt, b"db");
+    let mut disk = MemoryDisk::new(rt.alloc());
+    let mut parts = load(&rt, rt.alloc(), &mut disk, &name);
+    put_frames(&rt, rt.alloc(), &mut disk, &mut parts);
+    has_frames(&rt, &parts);
+    finds(&rt, rt.alloc(), &mut disk, &parts, 71, Some(40));
+    drop(parts);
+    let again = load(&rt, rt.alloc(), &mut disk, &name);
+    has_frames(&rt, &again);
+    drop(again);
+    for index in 0..74 {
+        reads(
+            &rt,
+            rt.alloc(),
+            &mut disk,
+            &name,
+            index,
+            time_in_frames(index),
+        );
+    }
+    lists(&rt, &mut disk, &name, &[(1, 1), (6, 2), (70, 3)]);
     drop(disk);
 }
 

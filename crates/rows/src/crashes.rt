@@ -35,18 +35,19 @@ fn outcome_of(text: &str) -> Result<Outcome, RowFault> {
     }
 }
 
-/// A crash as a row spells it: `old tick 1;|quiet;` has the end, and two scripts over the log `db`.
+/// A crash as a row spells it: `old run db|tick 1;|quiet;` has the end, the words of both runs, and their scripts.
 fn crash_of(alloc: Global, row: &str) -> Result<Crash, RowFault> {
-    let (end, scripts) = row.split_once(' ').unwrap_or((row, ""));
+    let (end, rest) = row.split_once(' ').unwrap_or((row, ""));
+    let (words, scripts) = rest.split_once('|').unwrap_or((rest, ""));
     let (first, second) = scripts.split_once('|').unwrap_or((scripts, ""));
     Ok(Crash {
         end: outcome_of(end)?,
         first: Call {
-            words: words_of(alloc, "run db")?,
+            words: words_of(alloc, words)?,
             script: script_of(alloc, first)?,
         },
         second: Call {
-            words: words_of(alloc, "run db")?,
+            words: words_of(alloc, words)?,
             script: script_of(alloc, second)?,
         },
     })

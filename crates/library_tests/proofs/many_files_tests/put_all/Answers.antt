@@ -6,7 +6,7 @@ use Rattle.segment_set.specs.declared.opened.Opened.{Opened}
 use Rattle.segment_set.specs.declared.parts.Parts.{Parts}
 use Rattle.segment_set.specs.declared.tail.Tail.{Tail}
 use Rattle.segment_set.specs.Fits.{Fits, IsAsBefore, IsOpenIn, TailIs}
-use Rattle.library_tests.proofs.many_files_tests.put.Goals as goal
+use Rattle.library_tests.proofs.many_files_tests.put_all.Goals as goal
 
 -- room is no matter of the disk
 fits_with_room : (v : View) (old new : Parts) → IsAsBefore old new → Fits v old → Fits v new
