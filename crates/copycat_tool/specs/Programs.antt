@@ -11,7 +11,9 @@ use Rattle.segment_set.specs.Load.{id_from}
 use Rattle.copycat_tool.specs.declared.ending.Ending.{Ending}
 use Rattle.copycat_tool.specs.declared.ending.Ending.TheVariants.{DiskFault, Damaged, NoMemory}
 use Rattle.host_recovery.specs.Logs.{HasPrefix, IsInOrder, StandsFor, plain_form}
+use Rattle.script_io.specs.Streams.{Rose}
 use Rattle.copycat_tool.specs.Report.{Run}
+use Rattle.copycat_tool.specs.Words.{usual_size}
 use Rattle.copycat_tool.specs.Runs.{BeginsAcked, BeginsAtPoints, ClosesAs, Files, RanSo, Wrote}
 
 abbrev pub usage_line : List ℕ
@@ -77,3 +79,16 @@ pub record StaysDamaged (name : List ℕ) (script left : Option (List ℕ)) (old
 -- all statuses
 abbrev pub IsStatus : ℕ → Type 0
 IsStatus status = (status ≡ 0) ⊎ (status ≡ 2) ⊎ (status ≡ 3) ⊎ (status ≡ 4) ⊎ (status ≡ 5) ⊎ (status ≡ 6) ⊎ (status ≡ 7) ⊎ (status ≡ 8)
+
+-- A CENSUS: a run of the one line `census`, which reads nothing of a script
+
+abbrev pub census_script : List ℕ
+census_script = codes "census"
+
+-- a source that never fails has not failed
+abbrev pub never_failed : Type 0
+never_failed = Rose 0 0
+
+pub record ShowsCensus (name : List ℕ) (log : List Item) (least : ℕ) (old new : View) (written written' : Option (List ℕ)) (status : ℕ) (disk_failed : Type 0) : Type 0 where
+  pub left : Option (List ℕ)
+  pub run : RunsInOrder (record { name = name; size = usual_size }) log least census_script left old new written written' status never_failed disk_failed

@@ -5,10 +5,16 @@ use Rattle.host_types.specs.Name.{named}
 use Rattle.host_types.specs.declared.log_name.NameFault.{NameFault}
 use Rattle.script_text.specs.Reading.{number}
 use Rattle.copycat_tool.specs.declared.words.Asked.{Asked}
+use Rattle.copycat_tool.specs.declared.words.Task.{Task}
+use Rattle.copycat_tool.specs.declared.words.Task.TheVariants.{Run, Census}
 
 -- to run a script over the log of this name, of which the next file is begun after so many entries
 abbrev pub asks : List ℕ → ℕ → Asked
-asks name size = record { name = name; size = size }
+asks name size = record { name = name; task = Run size }
+
+-- to show how the log of this name lies in its files
+abbrev pub asks_census : List ℕ → Asked
+asks_census name = record { name = name; task = Census }
 
 -- where the words say nothing of it
 abbrev pub usual_size : ℕ
@@ -29,6 +35,11 @@ if_within (Some size) = if nat_le 2 size && nat_le size 65536 then Some size els
 -- what a size may be
 abbrev pub IsSize : ℕ → Type 0
 IsSize size = (2 ≤ size) × (size ≤ 65536)
+
+-- a size that is asked for is one
+abbrev pub IsTask : Task → Type 0
+IsTask (Run size) = IsSize size
+IsTask Census = Unit {0}
 
 -- the size that a word is
 abbrev pub size_of : List ℕ → Option ℕ
@@ -53,7 +64,17 @@ run_of (a ∷ b ∷ c ∷ []) =
     else None
 run_of (a ∷ b ∷ c ∷ d ∷ more) = None
 
+abbrev pub named_census : Result (List ℕ) NameFault → Option Asked
+named_census (Ok name) = Some (asks_census name)
+named_census (Err fault) = None
+
+-- what stands behind the word `census`: NAME
+abbrev pub census_asked : List (List ℕ) → Option Asked
+census_asked [] = None
+census_asked (name ∷ []) = named_census (named name)
+census_asked (a ∷ b ∷ more) = None
+
 -- no other words are a command
 abbrev pub asked_of : List (List ℕ) → Option Asked
 asked_of [] = None
-asked_of (word ∷ words) = if bytes_eq word (codes "run") then run_of words else None
+asked_of (word ∷ words) = if bytes_eq word (codes "run") then run_of words else if bytes_eq word (codes "census") then census_asked words else None

@@ -1,6 +1,6 @@
 // The words that the program is called with.
 ghost use Rattle.std.specs.Prelude.{◌≡◌, map, IfSome};
-ghost use Rattle.copycat_tool.specs.Words.{IsSize, asked, asked_of, run_of, size_of};
+ghost use Rattle.copycat_tool.specs.Words.{IsSize, IsTask, asked, asked_of, census_asked, run_of, size_of};
 ghost use Rattle.host_types.specs.Name.{named};
 
 use host_types::LogName;
@@ -11,14 +11,22 @@ pub const USAGE: &[u8] =
     b"usage: copycat run NAME [--segment N], census NAME, follow LEADER NAME, make NAME SEED COUNT\n";
 
 /// After how many entries the next file is begun, where the words say nothing of it.
-const USUAL_SIZE: u32 = 1024;
+pub const USUAL_SIZE: u32 = 1024;
 
-/// What the words ask: to run a script over the log of this name.
+/// What is to be done with a log.
+#[derive(Clone, Copy)]
+pub enum Task {
+    /// A script is run over it. Files that are made now are to have so many entries: 2 to 65,536.
+    Run { size: u32 },
+    /// It is shown how it lies in its files.
+    Census,
+}
+
+/// What the words ask.
 #[derive(Clone, Copy)]
 pub struct Asked {
     pub name: LogName,
-    /// After how many entries the next file is begun, for files that are made now: 2 to 65,536.
-    pub size: u32,
+    pub task: Task,
 }
 
 /// The size that a word is.
@@ -37,18 +45,18 @@ fn size_in(word: &[u8]) -> Option<u32>
 fn asks(name: &[u8], size: Option<u32>) -> Option<Asked>
     requires { IfSome size IsSize }
     ensures asked { result ≡ asked (named name.now) size }
-    ensures within { IfSome result (λ asked. IsSize asked.size) }
+    ensures within { IfSome result (λ asked. IsTask asked.task) }
 {
     Some(Asked {
         name: LogName::new(name).ok()?,
-        size: size?,
+        task: Task::Run { size: size? },
     })
 }
 
 /// What stands behind the word `run`.
 fn read_run(words: &[Vec<u8>]) -> Option<Asked>
     ensures asked { result ≡ run_of (map (λ w. w.items) words.now) }
-    ensures within { IfSome result (λ asked. IsSize asked.size) }
+    ensures within { IfSome result (λ asked. IsTask asked.task) }
 {
     match words {
         [] => None,
@@ -75,14 +83,29 @@ fn read_run(words: &[Vec<u8>]) -> Option<Asked>
     }
 }
 
-/// What the words ask, if they are a command. `run NAME` is the one command so far, with `--segment N` or `--segment=N`
-/// before or behind the name.
+/// What stands behind the word `census`.
+fn read_census(words: &[Vec<u8>]) -> Option<Asked>
+    ensures asked { result ≡ census_asked (map (λ w. w.items) words.now) }
+    ensures within { IfSome result (λ asked. IsTask asked.task) }
+{
+    match words {
+        [name] => Some(Asked {
+            name: LogName::new(name).ok()?,
+            task: Task::Census,
+        }),
+        _ => None,
+    }
+}
+
+/// What the words ask, if they are a command: `run NAME`, with `--segment N` or `--segment=N` before or behind the name, or
+/// `census NAME`.
 pub fn read_words(words: &[Vec<u8>]) -> Option<Asked>
     ensures asked { result ≡ asked_of (map (λ w. w.items) words.now) }
-    ensures within { IfSome result (λ asked. IsSize asked.size) }
+    ensures within { IfSome result (λ asked. IsTask asked.task) }
 {
     match words {
         [word, words @ ..] if word.as_slice() == b"run".as_slice() => read_run(words),
+        [word, words @ ..] if word.as_slice() == b"census".as_slice() => read_census(words),
         _ => None,
     }
 }

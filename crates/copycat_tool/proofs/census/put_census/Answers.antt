@@ -1,4 +1,4 @@
-use Rattle.std.proofs.Common.{◌≡◌, ◌≤◌, ◌<◌, ℕ, ◌+◌, false, List, [], ◌∷◌, ◌++◌, length, get_or, take, ap, sym, subst, ◌∙◌, refl, arith}
+use Rattle.std.proofs.Common.{◌≡◌, ◌≤◌, ◌<◌, ℕ, ◌+◌, false, List, [], ◌∷◌, ◌++◌, length, get_or, ap, subst, ◌∙◌, refl, arith}
 use Rattle.std.proofs.lemmas.List.{get_or_default, take_all}
 use Rattle.script_text.specs.declared.printed.Printed.TheVariants as prints
 use Rattle.script_text.specs.Printing.{printed_text}

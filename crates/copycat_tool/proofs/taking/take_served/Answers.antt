@@ -1,4 +1,4 @@
-use Rattle.std.proofs.Common.{◌≡◌, Option, Some, Err, ◌∙◌, subst}
+use Rattle.std.proofs.Common.{◌≡◌, Some, Err, ◌∙◌, subst}
 use Rattle.std.specs.Option.{option_copied, option_map}
 use Rattle.log_model.specs.serving.Batches.{Batch as ABatch}
 use Rattle.event_batches.specs.Kept.{as_batch}
