@@ -8,3 +8,4 @@ pub mod Parts
 pub mod Remarking
 pub mod Standing
 pub mod Tables
+pub mod Telling

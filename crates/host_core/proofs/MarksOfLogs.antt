@@ -50,11 +50,12 @@ unmarked j c (x ∷ xs) s none out =
     ap (λ t. mark_from j (after c x.0 x.1) xs (cond t (Some x.0) None)) (λ i. (out i || apart.0 i) && not (is_held (after c x.0 x.1) j))
     ∙ unmarked j (after c x.0 x.1) xs (sorted-after c x.0 x.1 s) apart.1 (held_step j c x s apart.0 out)
 
-abbrev with : Option Entry → Option Entry → Option Entry
+-- the entry at an index, with one entry more
+abbrev pub with : Option Entry → Option Entry → Option Entry
 with None more = more
 with (Some e) more = Some e
 
-entry_more : (entries : Numbered) (i : ℕ) (e : Entry) (j : ℕ) → entry_at (entries ++ (i, e) ∷ []) j ≡ with (entry_at entries j) (cond (i == j) (Some e) None)
+pub entry_more : (entries : Numbered) (i : ℕ) (e : Entry) (j : ℕ) → entry_at (entries ++ (i, e) ∷ []) j ≡ with (entry_at entries j) (cond (i == j) (Some e) None)
 entry_more [] i e j = ap (λ b. cond b (Some e) no_entry) (same_key j i)
   where
     no_entry : Option Entry

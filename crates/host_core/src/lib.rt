@@ -9,5 +9,5 @@ mod state;
 mod taking;
 
 pub use deciding::{DecideError, Decided};
-pub use laws::marks_of_logs_follow;
+pub use laws::{entries_tell, fewer_tell, marks_of_logs_follow, replays_tell};
 pub use state::{Core, Prepared};
