@@ -111,9 +111,9 @@ module _ {D : Type 0} (view : D → View) (files : Files) (session : ℕ) (old m
     abbrev events : List ℕ
     events = n.known ++ n.is.0.index ∷ []
 
-    there : IsConfirmed session last' mid new → IsAt view files new (changed files.size run (Confirms session events (Some n.is.0)))
+    there : IsConfirmed view session last' mid new → IsAt view files new (changed files.size run (Confirms session events (Some n.is.0)))
     there confirmed =
-        let a = at_confirmed view files mid new run session n.is.0.index n.known n.at more (subst (λ (e : ℕ). IsConfirmed session e mid new) n.is.3 confirmed) in
+        let a = at_confirmed view files mid new run session n.is.0.index n.known n.at more (subst (λ (e : ℕ). IsConfirmed view session e mid new) n.is.3 confirmed) in
         record {
           name_is = a.name_is;
           size_is = a.size_is;
@@ -129,13 +129,13 @@ module _ {D : Type 0} (view : D → View) (files : Files) (session : ℕ) (old m
     on_ok (Ok x) X Y f y = f y
     on_ok (Err e) X Y f y = tt
 
-    pub taken_answered : {T : Type 0} (r : Result T Ending) → OnOk r (IsConfirmed session last' mid new) → ArePut written written' sink sink' (event_lines session n.is.0) r → Answers view files (take_answer run session ∷ []) old new run written written' r
+    pub taken_answered : {T : Type 0} (r : Result T Ending) → OnOk r (IsConfirmed view session last' mid new) → ArePut written written' sink sink' (event_lines session n.is.0) r → Answers view files (take_answer run session ∷ []) old new run written written' r
     taken_answered r confirmed put =
         let served : Served = record { confirmed = events; turn = Takes n.is.0 } in
         subst (λ (a : Act). Answers view files (a ∷ []) old new run written written' r) (sym (act_is run session last n.opened served n.is_open same n.is.1))
         (put_lines view files old new run (turn_answer run session served) at (still_more old mid new still more) refl refl
         (offers_nothing files run (turn_answer run session served) (Confirms session events (Some n.is.0)) (taken_offered files run session events n.is.0 (subst (λ (l : ℕ). take_batch l n.is.0 ≡ Taken) same n.is.4) n.is.5) refl)
-        written written' sink sink' r (on_ok r (IsConfirmed session last' mid new) (IsAt view files new (changed files.size run (Confirms session events (Some n.is.0)))) there confirmed) put)
+        written written' sink sink' r (on_ok r (IsConfirmed view session last' mid new) (IsAt view files new (changed files.size run (Confirms session events (Some n.is.0)))) there confirmed) put)
 
     -- and the clients are those of the run
     pub taken_clients : (clients clients' : Clients) → HasClients run clients → {T E : Type 0} (r : Result T E) → OnOk r (Keeps session last' clients clients') → OnOk r (HasClients (after files.size run (take_answer run session ∷ [])) clients')

@@ -18,9 +18,7 @@ use Rattle.session_table.specs.Asked.{batch_at, served_in}
 use Rattle.session_table.specs.Table.{Beside, IsOpen, confirmed_of, confirmed_positions, session_at}
 use Rattle.host_core.specs.CoreState.{CoreState}
 use Rattle.host_recovery.specs.HostState.{HostState}
-use Rattle.segment_set.specs.declared.parts.Parts.{Parts as FileParts}
-use Rattle.segment_set.specs.Fits.{IsHeld, parts_in}
-use Rattle.host_recovery.specs.Logs.{AreOf, IsLog, StandsFor, hosted_form, plain_form}
+use Rattle.host_recovery.specs.Logs.{IsLog, StandsFor, plain_form}
 use Rattle.host_recovery.specs.Standing.{layout_in}
 use Rattle.resource_catalog.specs.Catalog.{catalog_decision}
 use Rattle.resource_catalog.specs.Parts.{Parts}
@@ -63,18 +61,12 @@ module _ {D : Type 0} (view : D → View) (files : Files) where
       subst (λ (x : View). IsAtRest files x run') (sym same) here
 
   -- but for what its sessions have confirmed
-  pub at_confirmed : (old new : HostState D Parts) (run : Run) (session event : ℕ) (known : List ℕ) → IsAt view files old (changed files.size run (Confirms session known None)) → IsStill old new → IsConfirmed session event old new
+  pub at_confirmed : (old new : HostState D Parts) (run : Run) (session event : ℕ) (known : List ℕ) → IsAt view files old (changed files.size run (Confirms session known None)) → IsStill old new → IsConfirmed view session event old new
       → IsAt view files new (changed files.size run (Confirms session (known ++ event ∷ []) None))
   at_confirmed old new run session event known at still confirmed = record {
     name_is = ap (λ p. p.name) still.parts ∙ at.name_is;
     size_is = still.size ∙ at.size_is;
-    stands = record {
-      runs = still.stopped ∙ at.stands.runs;
-      log = at.stands.log;
-      of = subst (λ (p : D × FileParts). AreOf (hosted_form catalog_decision) (parts_in (view p.0).reading p.1) run.log) (λ i. (sym still.disk i, sym still.parts i)) at.stands.of;
-      held = subst (λ (p : D × FileParts). IsHeld (view p.0) p.1) (λ i. (sym still.disk i, sym still.parts i)) at.stands.held;
-      state = confirmed.state ∙ at.stands.state;
-    };
+    stands = confirmed.stands run.log at.stands;
     last_is = ap (λ (s : Hosted). s.last) confirmed.state ∙ at.last_is;
     layout_is = (λ i. layout_in (view (still.disk i)) (still.parts i)) ∙ at.layout_is;
     file_is = at.file_is ∙ sym (ap (λ p. is_none p.tail) still.parts);
@@ -221,7 +213,7 @@ module _ (law : HostsArePlain catalog_decision) (turns : ServesInTurn) {D : Type
           ∙ ap (λ (n : ℕ). record { confirmed = (k.known ++ b.index ∷ []) ++ (serve last (after_event n (chained x.acked_event x.batches))).confirmed; turn = (serve last (after_event n (chained x.acked_event x.batches))).turn }) (sym at_b)
 
   -- one more is known and confirmed
-  pub knows_one : (new : HostState D Parts) (b : Batch) → IsOpen session now.core.sessions → batch_at session now.core.sessions ≡ Some b → take_batch last b ≡ Repeated → IsStill now new → IsConfirmed session b.index now new → Known view files session new run last
+  pub knows_one : (new : HostState D Parts) (b : Batch) → IsOpen session now.core.sessions → batch_at session now.core.sessions ≡ Some b → take_batch last b ≡ Repeated → IsStill now new → IsConfirmed view session b.index now new → Known view files session new run last
   knows_one new b opened served same still confirmed = record {
     known = k.known ++ b.index ∷ [];
     none = λ is. let some = subst (λ (o : Option Session). IsTrue (is_some o)) (found ∙ is) opened in absurd (cc some);

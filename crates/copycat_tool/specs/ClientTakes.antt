@@ -7,6 +7,7 @@ use Rattle.disk_model.specs.View.{View}
 use Rattle.script_io.specs.Streams.{Rose}
 use Rattle.script_text.specs.declared.printed.Printed.TheVariants as prints
 use Rattle.script_text.specs.Printing.{printed_text}
+use Rattle.log_model.specs.plain.Admission.{Item}
 use Rattle.log_model.specs.plain.Plain.{Session, session_of}
 use Rattle.log_model.specs.plain.Step.{folded}
 use Rattle.log_model.specs.serving.Batches.{Batch, Served, Taken, Nothing_new, Takes, Misses, batches, serve, take_batch}
@@ -16,6 +17,8 @@ use Rattle.session_table.specs.Asked.{batch_at}
 use Rattle.session_table.specs.Table.{Table, confirmed_of, confirmed_positions}
 use Rattle.host_core.specs.CoreState.{hosted}
 use Rattle.host_recovery.specs.HostState.{HostState}
+use Rattle.host_recovery.specs.Standing.{StandsAt}
+use Rattle.resource_catalog.specs.Catalog.{catalog_decision}
 use Rattle.resource_catalog.specs.Parts.{Parts, cells_of}
 use Rattle.copycat_tool.specs.declared.clients.Clients.{Clients}
 use Rattle.copycat_tool.specs.declared.ending.Ending.{Ending}
@@ -49,11 +52,12 @@ pub record IsStill {D M : Type 0} (old new : HostState D M) : Type 0 where
   pub size : new.size ≡ old.size
   pub stopped : new.stopped ≡ old.stopped
 
--- this event of a session was confirmed
-pub record IsConfirmed {D : Type 0} (session event : ℕ) (old new : HostState D Parts) : Type 0 where
+-- this event of a session was confirmed, and the host stands where it stood
+pub record IsConfirmed {D : Type 0} (view : D → View) (session event : ℕ) (old new : HostState D Parts) : Type 0 where
   pub state : hosted cells_of new.core ≡ hosted cells_of old.core
   pub positions : confirmed_positions new.core.sessions.beside ≡ position_changed session (moved_to event) (confirmed_positions old.core.sessions.beside)
   pub event_is : confirmed_of session new.core.sessions ≡ event
+  pub stands : (log : List Item) → StandsAt catalog_decision view cells_of old log → StandsAt catalog_decision view cells_of new log
 
 -- The client, which took `last` at last, has confirmed what it knew of what it was to be served, and this comes next.
 abbrev pub IsNext : Next → {D : Type 0} → ℕ → HostState D Parts → Run → ℕ → ℕ → List ℕ → Served → Type 0

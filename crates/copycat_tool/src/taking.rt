@@ -38,7 +38,7 @@ fn confirm<D: Disk>(session: Index, event: Index, host: &mut Host<D, Catalog>)
     requires is_open { IsOpen session host.old.core.sessions }
     requires served { (b : ABatch) × (batch_at session host.old.core.sessions ≡ Some b) × (b.index ≡ event) }
     ensures still { IsStill host.old host.new }
-    ensures confirmed { IsConfirmed session event host.old host.new }
+    ensures confirmed { IsConfirmed D.view session event host.old host.new }
 {
     match host.ack(session, event) {
         Ok(()) => {}
@@ -126,7 +126,7 @@ fn take_served<D: Disk, O: Sink>(
         → ArePut (O.written out.old) (O.written out.new) (O.faults out.old) (O.faults out.new) (event_lines session b) result }
     ensures later { O.faults out.old ≤ O.faults out.new }
     ensures still { IsStill host.old host.new }
-    ensures confirmed { OnOk result (IsConfirmed session client.last host.old host.new) }
+    ensures confirmed { OnOk result (IsConfirmed D.view session client.last host.old host.new) }
     ensures clients { OnOk result (Keeps session client.last clients.old clients.new) }
 {
     match clients.keep(session, client) {

@@ -1,5 +1,7 @@
 -- The log that the files of a host hold, where a disk fits what is remembered of them, and an entry more.
 use Rattle.std.proofs.Common.{◌≡◌, ℕ, ◌+◌, ◌≤◌, true, Bool, is_none, List, [], ◌∷◌, ◌++◌, length, Option, Some, None, refl, sym, ap, subst, ◌∙◌, arith, length-append, Contains}
+use Rattle.std.specs.FinMap.{insert}
+use Rattle.host_types.specs.Cells.{Cells}
 use Rattle.host_types.specs.declared.entry.Entry.{Entry}
 use Rattle.host_types.specs.Decision.{MachineDecision}
 use Rattle.disk_model.specs.Image.{Image}
@@ -12,13 +14,17 @@ use Rattle.segment_set.specs.Growth.{begun, gained, greatest_after, needs_file}
 use Rattle.segment_set.specs.Fits.{Fits, cut_of, floor_of, last_of, parts_in}
 use Rattle.segment_set.proofs.Known.{sealed_full}
 use Rattle.segment_set.proofs.Tiles.{ended_by, tail_has_room, tiles_by}
-use Rattle.log_model.specs.cleaning.Cleaning.{Cleaned}
+use Rattle.log_model.specs.cleaning.Cells.{after, cells, is_held}
+use Rattle.log_model.specs.cleaning.Cleaning.{Cleaned, numbered}
 use Rattle.log_model.specs.cleaning.Layout.{with_entry}
-use Rattle.log_model.specs.hosted.Hosted.{hosted_entry, hosted_folded, hosted_quiet, hosted_stored}
+use Rattle.log_model.specs.hosted.Hosted.{Hosted, hosted_entry, hosted_folded, hosted_quiet, hosted_stored}
 use Rattle.log_model.specs.plain.Admission.{Item}
 use Rattle.log_model.proofs.cleaning.Appends.{append_keeps}
 use Rattle.log_model.proofs.hosted.HostedLogs.{grown, quiet_grows_hosted, whole}
 use Rattle.log_model.proofs.hosted.OfMachines.{quiet_within}
+use Rattle.released_marks.specs.Marks.{Marks}
+use Rattle.host_core.specs.Marking.{AreMarked, HasMarks, TellReleased}
+use Rattle.host_core.proofs.Telling.{entry_tells}
 use Rattle.host_recovery.specs.Logs.{AreOf, StandsFor, hosted_form}
 use Rattle.host_recovery.specs.Standing.{layout_in}
 use Rattle.host_recovery.proofs.Lengthening.{AreWhole, begun_cut, begun_ended, begun_entries, begun_floor, begun_tiles, gained_cut, gained_ended, gained_entries, gained_floor, gained_lies, gained_tiles, layout}
@@ -76,15 +82,32 @@ module _ (d : MachineDecision) (items : List Item) (item : Item) (entry : Entry)
     more = append_keeps (entries_of ps) (hosted_stored d items) q (hosted_quiet (hosted_folded d (items ++ item ∷ []))) (cut_of ps) (floor_of ps) entry of low
         (let quiet = of.is_quiet in omega (arith, quiet, later))
 
+    entries_more : entries_of ps ++ (length (hosted_stored d items) + 1, entry) ∷ [] ≡ entries_of (gained size greatest ps (entry ∷ []))
+    entries_more = ap (λ (n : ℕ). entries_of ps ++ (n + 1, entry) ∷ []) (whole d items).length ∙ sym (gained_entries size greatest ps (length items) least whole_ps entry)
+
+    stored_more : hosted_stored d items ++ entry ∷ [] ≡ hosted_stored d (items ++ item ∷ [])
+    stored_more = ap (λ (e : Entry). hosted_stored d items ++ e ∷ []) is ∙ sym (grown d items item).stored
+
     -- with the entry they hold what is left of the log with the item
     pub of_gained : AreOf (hosted_form d) (gained size greatest ps (entry ∷ [])) (items ++ item ∷ [])
     of_gained =
-        let w = whole d items in
-        let entries : entries_of ps ++ (length (hosted_stored d items) + 1, entry) ∷ [] ≡ entries_of (gained size greatest ps (entry ∷ [])) =
-        ap (λ (n : ℕ). entries_of ps ++ (n + 1, entry) ∷ []) w.length ∙ sym (gained_entries size greatest ps (length items) least whole_ps entry) in
-        let stored : hosted_stored d items ++ entry ∷ [] ≡ hosted_stored d (items ++ item ∷ []) = ap (λ (e : Entry). hosted_stored d items ++ e ∷ []) is ∙ sym (grown d items item).stored in
         subst (λ (x : Numbered × List Entry × ℕ × ℕ). Cleaned x.0 x.1 (hosted_quiet (hosted_folded d (items ++ item ∷ []))) x.2 x.3)
-        (λ i. (entries i, stored i, sym (gained_cut size greatest ps (length items) least whole_ps entry) i, sym (gained_floor size greatest ps (length items) least whole_ps entry) i)) more
+        (λ i. (entries_more i, stored_more i, sym (gained_cut size greatest ps (length items) least whole_ps entry) i, sym (gained_floor size greatest ps (length items) least whole_ps entry) i)) more
+
+    -- and the marks tell what the log with the item has released, where they told it of the log and the entry was marked
+    pub marks_gained : (before now : Hosted) (marks marks' : Marks) → before ≡ hosted_folded d items → now.cells ≡ after before.cells (before.last + 1) entry
+        → TellReleased (entries_of ps) (hosted_stored d items) (cut_of ps) marks → HasMarks before.last before.cells marks
+        → AreMarked (before.last + 1) before.cells now.cells (insert marks (before.last + 1) None) marks'
+        → TellReleased (entries_of (gained size greatest ps (entry ∷ []))) (hosted_stored d (items ++ item ∷ [])) (cut_of (gained size greatest ps (entry ∷ []))) marks'
+    marks_gained before now marks marks' at next tell has step =
+        let w = whole d items in
+        let held : before.cells ≡ cells (numbered (hosted_stored d items)) = ap (λ (s : Hosted). s.cells) at ∙ w.cells in
+        let index : before.last + 1 ≡ length (hosted_stored d items) + 1 = ap (λ (s : Hosted). s.last + 1) at ∙ ap (λ (n : ℕ). n + 1) (w.last ∙ sym w.length) in
+        let told : TellReleased (entries_of ps ++ (length (hosted_stored d items) + 1, entry) ∷ []) (hosted_stored d items ++ entry ∷ []) (cut_of ps) marks' =
+        entry_tells (hosted_stored d items) entry (entries_of ps) q (cut_of ps) (floor_of ps) marks marks' of low tell
+        (λ j h. has.held j (ap (λ (c : Cells). is_held c j) held ∙ h))
+        (subst (λ (x : ℕ × Cells × Cells). AreMarked x.0 x.1 x.2 (insert marks x.0 None) marks') (λ i. (index i, held i, (next ∙ (λ j. after (held j) (index j) entry)) i)) step) in
+        subst (λ (x : Numbered × List Entry × ℕ). TellReleased x.0 x.1 x.2 marks') (λ i. (entries_more i, stored_more i, sym (gained_cut size greatest ps (length items) least whole_ps entry) i)) told
 
     pub stands_gained : (name : List ℕ) (image : Image) → IsChoice (folder name image) (gained size greatest ps (entry ∷ [])) → StandsFor (hosted_form d) name image (items ++ item ∷ [])
     stands_gained name image choice =

@@ -1,5 +1,5 @@
 -- A host that stands at a log, and an item more.
-use Rattle.std.proofs.Common.{◌≡◌, inl, inr, ⊎_elim, ℕ, ◌+◌, ◌≤◌, ◌<◌, nat_le, nat_lt, Bool, cond, Some, arith, false, IsTrue, Ok, List, [], ◌∷◌, ◌++◌, length, refl, sym, ap, subst, ◌∙◌}
+use Rattle.std.proofs.Common.{◌≡◌, inl, inr, ⊎_elim, ℕ, ◌+◌, ◌≤◌, ◌<◌, nat_le, nat_lt, Bool, cond, None, Some, arith, false, IsTrue, Ok, List, [], ◌∷◌, ◌++◌, length, refl, sym, ap, subst, ◌∙◌}
 use Rattle.std.proofs.lemmas.Bool.{and_from}
 use Rattle.std.proofs.lemmas.Bool.Decides.{nat_tests}
 use Rattle.host_types.specs.Cells.{Cells}
@@ -12,29 +12,32 @@ use Rattle.host_types.specs.declared.entry.Refusal.{Refusal}
 use Rattle.host_types.specs.declared.entry.Refusal.TheVariants.{Time, LogEnd}
 use Rattle.host_types.specs.Limits.{index_limit}
 use Rattle.std.specs.Cmp.{nat_eq_equiv}
+use Rattle.std.specs.FinMap.{insert}
 use Rattle.disk_model.specs.Image.{Image}
 use Rattle.disk_model.specs.View.{View, IsSound as IsDiskSound, LeavesOnly, MayLeave}
 use Rattle.disk_model.proofs.Moments.{started, weaker}
 use Rattle.host_types.specs.declared.entry.Offer.{Offer}
+use Rattle.segment_files.specs.Folder.{entries_of}
 use Rattle.segment_files.specs.Parse.{Part}
 use Rattle.segment_set.specs.declared.parts.Parts.{Parts}
-use Rattle.segment_set.specs.Fits.{IsHeld, last_of, parts_in}
+use Rattle.segment_set.specs.Fits.{IsHeld, cut_of, last_of, parts_in}
 use Rattle.segment_set.specs.Growth.{HasOrGains, gained}
 use Rattle.log_model.specs.plain.Admission.{Item, Expired, Expiry, Expires, Nobody, Not_now, Offered, due_in, expires_due, Admission, Admitted, Repeats, Refused, first_refusal}
 use Rattle.log_model.specs.plain.Fitting.{ItemFits, ItemsFit}
-use Rattle.log_model.specs.hosted.Hosted.{Hosted, hosted_admits, hosted_expires, hosted_entry, hosted_folded, hosted_told, is_hosted_admitted, is_hosted_log}
+use Rattle.log_model.specs.hosted.Hosted.{Hosted, hosted_admits, hosted_expires, hosted_entry, hosted_folded, hosted_stored, hosted_told, is_hosted_admitted, is_hosted_log}
 use Rattle.log_model.specs.replay.Replay.{replay_entry}
 use Rattle.log_model.specs.hosted.Sound.{IsSound}
 use Rattle.log_model.specs.plain.Stored.{is_admission, is_expiry_of}
 use Rattle.log_model.proofs.hosted.HostedLogs.{grown, whole}
 use Rattle.log_model.proofs.hosted.OfMachines.{admitted_in_range, logs_sound, step_is_replay}
 use Rattle.host_core.specs.CoreState.{hosted}
+use Rattle.host_core.specs.Marking.{AreMarked, HasMarks, TellReleased}
 use Rattle.host_recovery.specs.HostState.{HostState}
 use Rattle.host_recovery.specs.Logs.{AreOf, StandsFor, hosted_form}
 use Rattle.host_recovery.specs.Standing.{IsKept, StandsAt, StandsOrExpires, StandsOrGains, StandsOrTakes}
 use Rattle.host_recovery.specs.Answers.{OnAnswer, admits_file, admits_stored, answer_of, expiry_stored, if_filed}
 use Rattle.host_recovery.specs.declared.answers.Answer.{Answer}
-use Rattle.host_recovery.proofs.Files.{of_gained, parts_whole, stands, stands_begun, stands_gained}
+use Rattle.host_recovery.proofs.Files.{marks_gained, of_gained, parts_whole, stands, stands_begun, stands_gained}
 use Rattle.host_recovery.proofs.Lengthening.{AreWhole}
 
 fit_more : (items : List Item) (item : Item) → ItemsFit items → ItemFits item → ItemsFit (items ++ item ∷ [])
@@ -60,8 +63,10 @@ module _ {D M : Type 0} (d : MachineDecision) (tells : Bool) (view : D → View)
       → entry ≡ hosted_entry d (hosted cells old.core) item → new.stopped ≡ false
       → hosted cells new.core ≡ replay_entry (hosted_told d) 0 (hosted cells old.core) ((hosted cells old.core).last + 1, entry)
       → parts_in (view new.disk).reading new.parts ≡ gained old.size old.parts.greatest (parts_in (view old.disk).reading old.parts) (entry ∷ []) → IsHeld (view new.disk) new.parts
+      → HasMarks old.core.last (hosted cells old.core).cells old.core.marks
+      → AreMarked ((hosted cells old.core).last + 1) (hosted cells old.core).cells (hosted cells new.core).cells (insert old.core.marks ((hosted cells old.core).last + 1) None) new.core.marks
       → StandsAt d view cells new (items ++ item ∷ [])
-  stands_more new lawful at fit admitted is runs state parts held =
+  stands_more new lawful at fit admitted is runs state parts held has step =
       let g = grown d items item in
       let f : Hosted = hosted_folded d items in
       let ok : IsTrue (is_hosted_admitted d f item) = subst (λ (s : Hosted). IsTrue (is_hosted_admitted d s item)) at.state admitted in
@@ -78,6 +83,9 @@ module _ {D M : Type 0} (d : MachineDecision) (tells : Bool) (view : D → View)
             ∙ (λ i. replay_entry (hosted_told d) 0 (at.state i) ((at.state i).last + 1, (is ∙ ap (λ (s : Hosted). hosted_entry d s item) at.state) i))
             ∙ sym (step_is_replay d f item sound.sound sound.acks_are_past ok)
             ∙ sym g.folded;
+        marks = subst (λ (l : List Part). TellReleased (entries_of l) (hosted_stored d (items ++ item ∷ [])) (cut_of l) new.core.marks) (sym parts)
+            (marks_gained d items item entry old.size old.parts.greatest ps kept.size_first (whole_at d tells view cells old items kept t at) at.of (of_log at is)
+            (hosted cells old.core) (hosted cells new.core) old.core.marks new.core.marks at.state (ap (λ (s : Hosted). s.cells) state) at.marks has step);
       }
 
   -- what a crash leaves while the entry is stored stands for the log without the item or with it

@@ -1,5 +1,5 @@
 -- What is replayed when a host is opened, and the prefix of its log that was read.
-use Rattle.std.proofs.Common.{◌≡◌, inl, ℕ, zero, suc, Bool, true, false, ◌&&◌, IsTrue, List, [], ◌∷◌, length, take, Option, Some, None, refl, sym, ap, subst, ◌∙◌}
+use Rattle.std.proofs.Common.{◌≡◌, inl, ℕ, zero, suc, Bool, true, false, ◌&&◌, IsTrue, List, [], ◌∷◌, length, take, Option, Some, None, refl, sym, ap, subst, ◌∙◌, arith}
 use Rattle.host_types.specs.Decision.{MachineDecision, MachineIsLawful, MachineHasOneOwner}
 use Rattle.host_types.specs.Cells.{Cells}
 use Rattle.disk_model.specs.Image.{Image}
@@ -11,10 +11,13 @@ use Rattle.segment_set.proofs.LawProofs.{one_list}
 use Rattle.segment_set.proofs.Tiles.{cut_is}
 use Rattle.log_model.specs.plain.Admission.{Item}
 use Rattle.log_model.specs.plain.Fitting.{ItemsFit}
-use Rattle.log_model.specs.hosted.Hosted.{Hosted, hosted_nothing, hosted_step, hosted_told, is_hosted_admitted, is_hosted_log_from}
+use Rattle.log_model.specs.hosted.Hosted.{Hosted, hosted_nothing, hosted_step, hosted_stored, hosted_told, is_hosted_admitted, is_hosted_log_from}
 use Rattle.log_model.specs.replay.Replay.{replayed}
+use Rattle.log_model.proofs.hosted.HostedLogs.{marks_of_machines, whole}
 use Rattle.log_model.proofs.replay.WholeFold.{gives_hosted_fold}
 use Rattle.host_core.specs.CoreState.{hosted}
+use Rattle.host_core.specs.Marking.{AreMarksOf}
+use Rattle.host_core.proofs.Telling.{replay_tells}
 use Rattle.host_recovery.specs.HostState.{HostState}
 use Rattle.host_recovery.specs.Logs.{AreOf, HasPrefix, IsInOrder, IsLog, hosted_form}
 use Rattle.host_recovery.specs.Opening.{OpensAt}
@@ -65,8 +68,9 @@ pub opens_at : {D M : Type 0} (d : MachineDecision) (view : D → View) (cells :
     → AreParts (folder h.parts.name v0.reading) (parts_in (view h.disk).reading h.parts) (last_of h.parts)
     → IsHeld (view h.disk) h.parts
     → hosted cells h.core ≡ replayed (hosted_told d) (cut_by h.parts.sealed.items) (entries_of (parts_in (view h.disk).reading h.parts))
+    → AreMarksOf (entries_of (parts_in (view h.disk).reading h.parts)) h.core.marks
     → OpensAt d view cells v0 items least h
-opens_at d view cells v0 h items least lawful owner sound order runs fits are held state =
+opens_at d view cells v0 h items least lawful owner sound order runs fits are held state marks =
     let ps = parts_in (view h.disk).reading h.parts in
     let read = order.each v0.reading (read_is_left v0 sound) in
     let prefix : List Item = take read.count items in
@@ -86,5 +90,8 @@ opens_at d view cells v0 h items least lawful owner sound order runs fits are he
         state = state
             ∙ ap (λ (k : ℕ). replayed (hosted_told d) k (entries_of ps)) (sym (cut_is (view h.disk) h.parts fits))
             ∙ gives_hosted_fold d prefix (entries_of ps) (cut_of ps) (floor_of ps) lawful owner log.fits log.admitted of;
+        marks = replay_tells (entries_of ps) (hosted_stored d prefix) (cut_of ps) h.core.marks
+            (λ j e there cut low high. (let long = (whole d prefix).length in marks_of_machines d prefix (entries_of ps) (cut_of ps) (floor_of ps) lawful owner log.fits log.admitted of j e there cut low (omega (arith, long, high))))
+            marks;
       };
     }

@@ -15,6 +15,7 @@ use Rattle.log_model.specs.hosted.Hosted.{hosted_told}
 use Rattle.log_model.specs.replay.Replay.{replayed}
 use Rattle.session_table.specs.Table.{ConfirmsAcked}
 use Rattle.host_core.specs.CoreState.{CoreState, hosted}
+use Rattle.host_core.specs.Marking.{AreMarksOf}
 use Rattle.host_recovery.specs.HostState.{HostState}
 use Rattle.host_recovery.specs.Logs.{HasPrefix, IsInOrder, hosted_form}
 use Rattle.host_recovery.specs.Opening.{Opens}
@@ -35,9 +36,10 @@ module _ {D M : Type 0} (d : MachineDecision) (tells : Bool) (view : D → View)
   host parts core = record { disk = now; parts = parts; core = core; size = size; stopped = false }
 
   pub opens_so : (parts : Parts) (core : CoreState M) → MachineIsLawful d → MachineHasOneOwner d → (IsTrue tells → IsSound (view before)) → Loads tells (view before) (view now) (faults before) (faults now) name (Ok parts)
-      → (IsTrue tells → hosted cells core ≡ replayed (hosted_told d) (cut_by parts.sealed.items) (entries_of (parts_in (view now).reading parts))) → ConfirmsAcked core.sessions
+      → (IsTrue tells → hosted cells core ≡ replayed (hosted_told d) (cut_by parts.sealed.items) (entries_of (parts_in (view now).reading parts)))
+      → (IsTrue tells → AreMarksOf (entries_of (parts_in (view now).reading parts)) core.marks) → ConfirmsAcked core.sessions
       → Opens d tells view faults cells before now name size (Ok (host parts core))
-  opens_so parts core lawful owner sound loads state confirmed = record {
+  opens_so parts core lawful owner sound loads state marks confirmed = record {
     runs = (loads.name_is, refl, refl);
     confirmed = confirmed;
     told = λ t.
@@ -51,7 +53,8 @@ module _ {D M : Type 0} (d : MachineDecision) (tells : Bool) (view : D → View)
               found.fits
               (subst (λ (n : List ℕ). AreParts (folder n (view before).reading) (parts_in (view now).reading parts) (last_of parts)) named found.are)
               (found.held order.empty)
-              (state t);
+              (state t)
+              (marks t);
           any_moment = leaves_prefix (Ok parts) loads t;
           faultless = λ id at fault. no_fault (folder name (view before).reading) (parts_in (view now).reading parts) (last_of parts) found.are id at fault;
           lies = lies_so (view before) (view now) name parts (last_of parts) found.are found.greatest;

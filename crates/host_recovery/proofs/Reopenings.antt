@@ -17,6 +17,7 @@ use Rattle.log_model.specs.hosted.Hosted.{hosted_told}
 use Rattle.log_model.specs.cleaning.Layout.{alone as alone_by}
 use Rattle.log_model.specs.replay.Replay.{replayed}
 use Rattle.host_core.specs.CoreState.{hosted}
+use Rattle.host_core.specs.Marking.{AreMarksOf}
 use Rattle.host_recovery.specs.HostState.{HostState}
 use Rattle.host_recovery.specs.Logs.{HasPrefix, IsInOrder, StandsFor, hosted_form}
 use Rattle.host_recovery.specs.Standing.{StandsAt, layout_in}
@@ -51,15 +52,17 @@ module _ {D M : Type 0} (d : MachineDecision) (view : D → View) (cells : M →
       → AreParts (folder old.parts.name (view old.disk).reading) (parts_in (view new.disk).reading new.parts) (last_of new.parts)
       → IsHeld (view new.disk) new.parts
       → hosted cells new.core ≡ replayed (hosted_told d) (cut_by new.parts.sealed.items) (entries_of (parts_in (view new.disk).reading new.parts))
+      → AreMarksOf (entries_of (parts_in (view new.disk).reading new.parts)) new.core.marks
       → StandsAt d view cells new items
-  stands_again new lawful owner sound named runs new_fits are held state =
+  stands_again new lawful owner sound named runs new_fits are held state marks =
       let is = sym named in
       let opened = opens_at d view cells (view old.disk) new items (length items) lawful owner sound
       (subst (λ (n : List ℕ). IsInOrder (hosted_form d) (view old.disk) n items (length items)) is stays_in_order) runs
       new_fits
       (subst (λ (n : List ℕ). AreParts (folder n (view old.disk).reading) (parts_in (view new.disk).reading new.parts) (last_of new.parts)) is are)
       held
-      state in
+      state
+      marks in
       subst (StandsAt d view cells new) (take_all opened.count items opened.enough) opened.stands
 
   -- and whatever a crash leaves on the way stands for it

@@ -1,16 +1,22 @@
--- The entries of files are replayed one after the other, by rising index, each read from its place.
-use Rattle.std.proofs.Common.{◌≡◌, ◌⊎◌, inl, inr, ⊎_elim, ℕ, ◌<◌, ◌≤◌, Bool, T, cond, IsTrue, [], ◌∷◌, ◌++◌, refl, sym, ap, subst, ◌∙◌, arith, Contains}
-use Rattle.std.specs.FinMap.{is_sorted}
+-- The entries of files are replayed one after the other, by rising index, each read from its place, and what each releases is marked.
+use Rattle.std.proofs.Common.{◌≡◌, ◌⊎◌, inl, inr, ⊎_elim, ℕ, ◌<◌, ◌≤◌, Bool, T, cond, IsTrue, [], ◌∷◌, ◌++◌, Option, Some, None, refl, sym, ap, subst, ◌∙◌, arith, Contains}
+use Rattle.std.specs.FinMap.{empty, get, get-empty, insert, is_sorted}
 use Rattle.std.specs.Ordering.{nat_cmp}
 use Rattle.std.proofs.lemmas.Bool.{cases_lt, le-leb, lt-leb}
+use Rattle.host_types.specs.Cells.{Cells}
 use Rattle.host_types.specs.declared.entry.Entry.{Entry}
-use Rattle.log_model.specs.cleaning.Cells.{Numbered, up_to}
+use Rattle.log_model.specs.cleaning.Cells.{Numbered, after, cells, cells_from, up_to}
+use Rattle.log_model.specs.cleaning.Cleaning.{entry_at}
 use Rattle.log_model.specs.hosted.Hosted.{Hosted}
 use Rattle.log_model.specs.replay.Replay.{Telling, replay_entry, replay_from}
 use Rattle.segment_set.proofs.Images.{here, nothing, one_of}
 use Rattle.segment_set.proofs.Lying.{there}
 use Rattle.log_model.proofs.Lookups.{T_from}
-use Rattle.log_model.proofs.cleaning.Indexed.{sorted_parts}
+use Rattle.log_model.proofs.cleaning.Compactions.{each_at}
+use Rattle.log_model.proofs.cleaning.Indexed.{Each, each_up_to, sorted_parts}
+use Rattle.released_marks.specs.Marks.{Marks}
+use Rattle.host_core.specs.Marking.{AreMarked, AreMarksOf}
+use Rattle.host_core.proofs.MarksOfLogs.{marks_of_more}
 
 -- one entry more
 pub replay_more : (telling : Telling) (cut : ℕ) (s : Hosted) (xs : Numbered) (x : ℕ × Entry) → replay_from telling cut s (xs ++ x ∷ []) ≡ replay_entry telling cut (replay_from telling cut s xs) x
@@ -69,21 +75,58 @@ next_up_to low index (x ∷ xs) i entry rise has later least = ⊎_elim
 
 -- ---- the replay so far
 
-module _ (telling : Telling) (cut : ℕ) (first : Hosted) (all : Numbered) (rise : RiseFrom 0 all) where
+-- an index above these
+none_above : (k : ℕ) (xs : Numbered) (i : ℕ) → k < i → entry_at (up_to k xs) i ≡ None
+none_above k xs i behind = go (entry_at (up_to k xs) i) refl
+  where
+    any : (xs : Numbered) → Each (λ _ _. Unit {0}) xs
+    any [] = tt
+    any (x ∷ xs) = (tt, any xs)
+
+    go : (o : Option Entry) → entry_at (up_to k xs) i ≡ o → entry_at (up_to k xs) i ≡ None
+    go None is = is
+    go (Some e) is = let low = (each_at (λ i _. Unit {0} × (i ≤ k)) (up_to k xs) (each_up_to (λ _ _. Unit {0}) k xs (any xs)) i e is).1 in absurd (omega (arith, low, behind))
+
+-- the cells of a replay are those of its entries
+cells_replayed : (telling : Telling) (cut : ℕ) (s : Hosted) (xs : Numbered) → (replay_from telling cut s xs).cells ≡ cells_from s.cells xs
+cells_replayed telling cut s [] = refl
+cells_replayed telling cut s (x ∷ xs) = cells_replayed telling cut (replay_entry telling cut s x) xs
+
+-- the entries up to an index were replayed, and what they released was marked
+pub record Replayed (telling : Telling) (cut : ℕ) (first : Hosted) (all : Numbered) (index : ℕ) (now : Hosted) (marks_now : Marks) : Type 0 where
+  pub state : now ≡ replay_from telling cut first (up_to index all)
+  pub marks : AreMarksOf (up_to index all) marks_now
+
+module _ (telling : Telling) (cut : ℕ) (first : Hosted) (all : Numbered) (rise : RiseFrom 0 all) (empty_first : first.cells ≡ []) where
   -- the next one was replayed
-  pub replayed_next : (index i : ℕ) (entry : Entry) (now new : Hosted) → now ≡ replay_from telling cut first (up_to index all) → Contains all (i, entry) → index < i → ((x : ℕ × Entry) → Contains all x → index < x.0 → i ≤ x.0)
-      → new ≡ replay_entry telling cut now (i, entry) → new ≡ replay_from telling cut first (up_to i all)
-  replayed_next index i entry now new so_far has later least is =
-      is
-      ∙ ap (λ (s : Hosted). replay_entry telling cut s (i, entry)) so_far
-      ∙ sym (replay_more telling cut first (up_to index all) (i, entry))
-      ∙ ap (replay_from telling cut first) (sym (next_up_to 0 index all i entry rise has later least))
+  pub replayed_next : (index i : ℕ) (entry : Entry) (now new : Hosted) (marks marks' : Marks) → Replayed telling cut first all index now marks → Contains all (i, entry) → index < i → ((x : ℕ × Entry) → Contains all x → index < x.0 → i ≤ x.0)
+      → new ≡ replay_entry telling cut now (i, entry) → AreMarked i now.cells new.cells (insert marks i None) marks' → Replayed telling cut first all i new marks'
+  replayed_next index i entry now new marks marks' so_far has later least is step =
+      let up = next_up_to 0 index all i entry rise has later least in
+      let before : now.cells ≡ cells (up_to index all) = ap (λ (s : Hosted). s.cells) so_far.state ∙ cells_replayed telling cut first (up_to index all) ∙ ap (λ (c : Cells). cells_from c (up_to index all)) empty_first in
+      let after_it : new.cells ≡ after (cells (up_to index all)) i entry = ap (λ (s : Hosted). s.cells) is ∙ ap (λ (c : Cells). after c i entry) before in
+      record {
+        state = is
+            ∙ ap (λ (s : Hosted). replay_entry telling cut s (i, entry)) so_far.state
+            ∙ sym (replay_more telling cut first (up_to index all) (i, entry))
+            ∙ ap (replay_from telling cut first) (sym up);
+        marks = subst (λ (xs : Numbered). AreMarksOf xs marks') (sym up)
+            (marks_of_more (up_to index all) i entry marks marks' (none_above index all i later) so_far.marks
+            (subst (λ (c : Cells × Cells). AreMarked i c.0 c.1 (insert marks i None) marks') (λ j. (before j, after_it j)) step));
+      }
 
-  pub replayed_all : (index : ℕ) (now : Hosted) → ((x : ℕ × Entry) → Contains all x → x.0 ≤ index) → now ≡ replay_from telling cut first (up_to index all) → now ≡ replay_from telling cut first all
-  replayed_all index now low so_far = so_far ∙ ap (replay_from telling cut first) (all_up_to index all low)
+  pub none_yet : (marks : Marks) → marks ≡ empty → Replayed telling cut first all 0 first marks
+  none_yet marks none = let nothing_up = none_up_to 0 0 all (omega arith) rise in record {
+    state = ap (replay_from telling cut first) (sym nothing_up);
+    marks = subst (λ (xs : Numbered). AreMarksOf xs marks) (sym nothing_up) (λ j. ap (λ m. get m j) none ∙ get-empty nat_cmp j);
+  }
 
-  pub none_yet : first ≡ replay_from telling cut first (up_to 0 all)
-  none_yet = ap (replay_from telling cut first) (sym (none_up_to 0 0 all (omega arith) rise))
+pub replayed_all : {telling : Telling} {cut : ℕ} {first : Hosted} {all : Numbered} {index : ℕ} {now : Hosted} {marks : Marks} → ((x : ℕ × Entry) → Contains all x → x.0 ≤ index) → Replayed telling cut first all index now marks
+    → (now ≡ replay_from telling cut first all) × AreMarksOf all marks
+replayed_all {telling} {cut} {first} {all} {index} {now} {marks} low so_far = let whole = all_up_to index all low in (
+  so_far.state ∙ ap (replay_from telling cut first) whole,
+  subst (λ (xs : Numbered). AreMarksOf xs marks) whole so_far.marks,
+)
 
 -- ---- what rises, in the form of finite maps
 

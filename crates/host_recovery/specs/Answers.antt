@@ -75,6 +75,7 @@ pub record IsAsBefore {D M : Type 0} (cells : M → Cells) (old new : HostState 
   pub parts : ArePartsAsBefore old.parts new.parts
   pub stopped : new.stopped ≡ old.stopped
   pub state : KeepsState cells old new
+  pub marks : new.core.marks ≡ old.core.marks
 
 -- A refusal changes nothing. Want of memory changes nothing, or a call of the disk had it, which stops the host. A fault of the disk
 -- stops it. Its state is as before in any case.

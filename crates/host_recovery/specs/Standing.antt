@@ -5,13 +5,15 @@ use Rattle.host_types.specs.Cells.{Cells}
 use Rattle.host_types.specs.Decision.{MachineDecision}
 use Rattle.disk_model.specs.Image.{Image}
 use Rattle.disk_model.specs.View.{View}
+use Rattle.segment_files.specs.Folder.{entries_of}
 use Rattle.segment_files.specs.Parse.{Part}
 use Rattle.segment_set.specs.declared.parts.Parts.{Parts}
-use Rattle.segment_set.specs.Fits.{Fits, IsAlone, IsHeld, last_of, parts_in}
+use Rattle.segment_set.specs.Fits.{Fits, IsAlone, IsHeld, cut_of, last_of, parts_in}
 use Rattle.log_model.specs.plain.Admission.{Item, Admission, Admitted, Repeats, Refused, Expired, Expiry, Expires, Nobody, Not_now}
-use Rattle.log_model.specs.hosted.Hosted.{hosted_folded}
+use Rattle.log_model.specs.hosted.Hosted.{hosted_folded, hosted_stored}
 use Rattle.log_model.specs.cleaning.Layout.{Layout, PartLayout}
 use Rattle.host_core.specs.CoreState.{hosted}
+use Rattle.host_core.specs.Marking.{TellReleased}
 use Rattle.host_recovery.specs.Logs.{AreOf, IsLog, StandsFor, hosted_form}
 use Rattle.host_recovery.specs.HostState.{HostState}
 
@@ -38,14 +40,15 @@ part_layout p = record { base = p.id.base; last = p.last; present = map (λ (e :
 abbrev pub layout_in : View → Parts → Layout
 layout_in v parts = record { parts = map part_layout (parts_in v.reading parts); greatest = parts.greatest }
 
--- A host stands at a log: it runs, its files hold what is left of the log, so does whatever a crash leaves now, and its state is what
--- the log comes to.
+-- A host stands at a log: it runs, its files hold what is left of the log, so does whatever a crash leaves now, its state is what the log
+-- comes to, and from the files' greatest cut on its marks tell what the log has released.
 pub record StandsAt {D M : Type 0} (d : MachineDecision) (view : D → View) (cells : M → Cells) (h : HostState D M) (items : List Item) : Type 0 where
   pub runs : h.stopped ≡ false
   pub log : IsLog (hosted_form d) items
   pub of : AreOf (hosted_form d) (parts_in (view h.disk).reading h.parts) items
   pub held : IsHeld (view h.disk) h.parts
   pub state : hosted cells h.core ≡ hosted_folded d items
+  pub marks : TellReleased (entries_of (parts_in (view h.disk).reading h.parts)) (hosted_stored d items) (cut_of (parts_in (view h.disk).reading h.parts)) h.core.marks
 
 -- ---- what a host keeps
 

@@ -11,8 +11,8 @@ use std::marker::Model;
 /// core, the size of a new file, and whether it is stopped.
 ///
 /// Its contracts speak of the logs that it stands at (`StandsAt`): the files and each image that a crash may leave hold the log's
-/// stored form, and its state is what the log comes to. It has to be spent by `close`. A host that is stopped is closed and opened
-/// again.
+/// stored form, its state is what the log comes to, and its marks tell what the log has released. It has to be spent by `close`. A
+/// host that is stopped is closed and opened again.
 pub struct Host<D: Disk, M: Machine> {
     pub(crate) disk: D,
     pub(crate) parts: Parts,

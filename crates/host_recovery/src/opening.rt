@@ -1,5 +1,6 @@
 // A host is opened: its files are read, and the entries that they hold are replayed.
 ghost use Rattle.std.specs.Prelude.{◌≡◌, ◌≤◌, ◌+◌, ℕ, List, [], false, true, IsTrue, IfOk, OnOk, OnErr, IsErrOf};
+ghost use Rattle.std.specs.FinMap.{empty};
 ghost use Rattle.disk_model.specs.View.{LeavesOnly};
 ghost use Rattle.disk_model.specs.Calls.{Looks};
 ghost use Rattle.segment_files.specs.Folder.{entries_of};
@@ -11,6 +12,7 @@ ghost use Rattle.log_model.specs.cleaning.Layout.{alone};
 ghost use Rattle.log_model.specs.replay.Replay.{replay_from, replayed};
 ghost use Rattle.session_table.specs.Table.{ConfirmsAcked};
 ghost use Rattle.host_core.specs.CoreState.{hosted};
+ghost use Rattle.host_core.specs.Marking.{AreMarksOf};
 ghost use Rattle.host_recovery.specs.Standing.{StandsAt, layout_in};
 ghost use Rattle.host_recovery.specs.Logs.{StandsFor, hosted_form};
 ghost use Rattle.host_recovery.specs.Opening.{Opens, disk_behind, opened_again, opening_result};
@@ -24,8 +26,8 @@ use segment_set::{OpenError, Parts};
 use std::alloc::Global;
 use std::mem;
 
-/// Replays what these files hold, one entry after the other, each read from its place. No reply and no batch is kept up to the greatest
-/// cut of the files.
+/// Replays what these files hold, one entry after the other, each read from its place, and marks what each releases. No reply and no
+/// batch is kept up to the greatest cut of the files.
 fn replay_all<D: Disk, M: Machine>(
     alloc: Global,
     disk: &mut D,
@@ -33,9 +35,11 @@ fn replay_all<D: Disk, M: Machine>(
     parts: &Parts,
 ) -> Result<(), OpenError>
     requires fits { IsTrue D.tells → Fits (D.view disk.old) parts.now }
-    requires fresh { core.old.last ≡ 0 }
+    requires fresh { hosted M.cells core.old ≡ hosted_nothing }
+    requires unmarked { core.old.marks ≡ empty }
     ensures state { OnOk result (IsTrue D.tells → hosted M.cells core.new ≡ replay_from (hosted_told M.decides) (cut_by parts.now.sealed.items) (hosted M.cells core.old) (entries_of (parts_in (D.view disk.old).reading parts.now))) }
     ensures last { OnOk result (core.new.last ≡ last_of parts.now) }
+    ensures marks { OnOk result (IsTrue D.tells → AreMarksOf (entries_of (parts_in (D.view disk.old).reading parts.now)) core.new.marks) }
     ensures confirmed { OnOk result (ConfirmsAcked core.old.sessions → ConfirmsAcked core.new.sessions) }
     ensures undamaged { (base generation at : ℕ) → IsErrOf result (OpenError.Damaged base generation at) → IsTrue D.tells → ⊥ }
     ensures looks { IsTrue D.tells → Looks (D.view disk.old) (D.view disk.new) }
@@ -67,11 +71,13 @@ fn load<D: Disk, M: Machine>(
     name: &LogName,
 ) -> Result<Parts, OpenError>
     requires fresh { hosted M.cells core.old ≡ hosted_nothing }
+    requires unmarked { core.old.marks ≡ empty }
     requires unconfirmed { ConfirmsAcked core.old.sessions }
     ensures loads { Loads D.tells (D.view disk.old) (D.view disk.new) (D.faults disk.old) (D.faults disk.new)
         name.now result }
     ensures state { IfOk result (λ parts. IsTrue D.tells → hosted M.cells core.new ≡ replayed (hosted_told M.decides) (cut_by parts.sealed.items) (entries_of (parts_in (D.view disk.new).reading parts))) }
     ensures last { IfOk result (λ parts. core.new.last ≡ last_of parts) }
+    ensures marks { IfOk result (λ parts. IsTrue D.tells → AreMarksOf (entries_of (parts_in (D.view disk.new).reading parts)) core.new.marks) }
     ensures confirmed { OnOk result (ConfirmsAcked core.new.sessions) }
 {
     let parts = match Parts::load(alloc, disk, name) {

@@ -1,12 +1,14 @@
 // A host serves the events that its sessions keep.
-ghost use Rattle.std.specs.Prelude.{◌≡◌, None, IfOk, OnErr, OnOk, cond, is_ok, option_copied};
+ghost use Rattle.std.specs.Prelude.{◌≡◌, List, None, IfOk, OnErr, OnOk, cond, is_ok, option_copied};
 ghost use Rattle.std.specs.Option.{option_map};
 ghost use Rattle.event_batches.specs.Kept.{as_batch};
 ghost use Rattle.session_table.specs.Asked.{batch_at};
 ghost use Rattle.session_table.specs.Table.{IsOpen, confirmed_of, confirmed_positions, session_at};
+ghost use Rattle.log_model.specs.plain.Admission.{Item};
 ghost use Rattle.log_model.specs.serving.Positions.{moved_to, position_changed};
 ghost use Rattle.host_core.specs.CoreState.{hosted};
 ghost use Rattle.host_recovery.specs.Serving.{IsAcknowledged};
+ghost use Rattle.host_recovery.specs.Standing.{StandsAt};
 
 use crate::host::Host;
 use disk_model::Disk;
@@ -49,6 +51,8 @@ impl<D: Disk, M: Machine> Host<D, M> {
             (confirmed_positions self.old.core.sessions.beside) }
         ensures event { OnOk result (confirmed_of session self.new.core.sessions ≡ event) }
         ensures state { hosted M.cells self.new.core ≡ hosted M.cells self.old.core }
+        ensures marks { self.new.core.marks ≡ self.old.core.marks }
+        ensures stands { (items : List Item) → StandsAt M.decides D.view M.cells self.old items → StandsAt M.decides D.view M.cells self.new items }
         ensures disk { self.new.disk ≡ self.old.disk }
         ensures parts { self.new.parts ≡ self.old.parts }
         ensures size { self.new.size ≡ self.old.size }

@@ -1,5 +1,6 @@
 // A host stores what is offered and who is due.
 ghost use Rattle.std.specs.Prelude.{◌≡◌, ◌<◌, ◌+◌, List, [], ◌∷◌, ◌++◌, false, true, None, IsTrue, IfOk, IfErr, OnOk};
+ghost use Rattle.std.specs.FinMap.{insert};
 ghost use Rattle.host_types.specs.Limits.{index_limit};
 ghost use Rattle.host_types.specs.Ranges.{EntryFits, IsInRange};
 ghost use Rattle.disk_model.specs.View.{LeavesOnly};
@@ -16,6 +17,7 @@ ghost use Rattle.log_model.specs.serving.Positions.{confirmed_after};
 ghost use Rattle.session_table.specs.Table.{confirmed_positions};
 ghost use Rattle.host_core.specs.Entering.{confirmed_by};
 ghost use Rattle.host_core.specs.CoreState.{hosted};
+ghost use Rattle.host_core.specs.Marking.{AreMarked};
 ghost use Rattle.host_recovery.specs.Standing.{StandsAt, StandsOrExpires, StandsOrTakes, layout_in};
 ghost use Rattle.host_recovery.specs.Answers.{AfterError, HasHostCause, IsAnswer, IsExpiry, OnAnswer, IsStoreError, OnExpiry, admits_file, admits_stored, expiry_stored, refused_by};
 
@@ -106,6 +108,8 @@ impl<D: Disk, M: Machine> Host<D, M> {
         ensures runs { OnOk result (self.new.stopped ≡ false) }
         ensures state { OnOk result (hosted M.cells self.new.core ≡ replay_entry (hosted_told M.decides) 0 (hosted M.cells self.old.core) ((hosted M.cells self.old.core).last + 1, entry)) }
         ensures confirmed { OnOk result (confirmed_positions self.new.core.sessions.beside ≡ confirmed_by ((hosted M.cells self.old.core).last + 1) entry.body (confirmed_positions self.old.core.sessions.beside)) }
+        ensures marks { OnOk result (AreMarked ((hosted M.cells self.old.core).last + 1) (hosted M.cells self.old.core).cells (hosted M.cells self.new.core).cells
+            (insert self.old.core.marks ((hosted M.cells self.old.core).last + 1) None) self.new.core.marks) }
         ensures parts { OnOk result (IsTrue D.tells → parts_in (D.view self.new.disk).reading self.new.parts ≡ gained self.old.size self.old.parts.greatest (parts_in (D.view self.old.disk).reading self.old.parts) (entry ∷ [])) }
         ensures layout { OnOk result (IsTrue D.tells → layout_in (D.view self.new.disk) self.new.parts ≡ with_entry self.old.size (layout_in (D.view self.old.disk) self.old.parts)) }
         ensures held { OnOk result (IsTrue D.tells → IsHeld (D.view self.old.disk) self.old.parts → IsHeld (D.view self.new.disk) self.new.parts) }

@@ -28,14 +28,15 @@ next_is parts index next o is n = subst (IsNextIn (present parts) index) is n
 
 pub loop-next-init : goal.loop-next-init
 loop-next-init g c = record {
-  last = c.requires.fresh;
+  last = ap (λ (s : Hosted). s.last) c.requires.fresh;
   there = inl refl;
   looks = λ t. looks_not (g.D.Disk.view c.args.disk.now) (g.met.D.Disk.sound c.args.disk.now t);
   faults = omega arith;
   confirmed = λ is. is;
-  state = λ t.
+  replayed = λ t.
       let v = g.D.Disk.view c.args.disk.now in
-      none_yet (hosted_told g.M.Machine.decides) _ (hosted g.M.Machine.cells c.args.core.now) (entries_of (parts_in v.reading c.args.parts.now)) (rise_of v c.args.parts.now (c.requires.fits t));
+      none_yet (hosted_told g.M.Machine.decides) _ (hosted g.M.Machine.cells c.args.core.now) (entries_of (parts_in v.reading c.args.parts.now)) (rise_of v c.args.parts.now (c.requires.fits t)) (ap (λ (s : Hosted). s.cells) c.requires.fresh)
+      c.args.core.now.marks c.requires.unmarked;
 }
 
 pub read-requires : goal.read-requires
@@ -64,18 +65,19 @@ loop-next-preserved-in-Ok-replay g c =
       looks = λ t. looks_then v0 v w (g.met.D.Disk.sound c.args.disk.now t) (c.loop-next.invariant.looks t) (c.read.ensures.looks t);
       faults = omega (arith, c.loop-next.invariant.faults, c.read.ensures.cause.later);
       confirmed = λ is. c.in-Ok-replay.ensures.confirmed (c.loop-next.invariant.confirmed is);
-      state = λ t.
+      replayed = λ t.
           let reading = (c.loop-next.invariant.looks t).stays.reading in
           let fits = c.requires.fits t in
-          replayed_next (hosted_told g.M.Machine.decides) (cut_by parts.sealed.items) (hosted g.M.Machine.cells c.args.core.now) (entries_of (parts_in v0.reading parts)) (rise_of v0 parts fits)
+          replayed_next (hosted_told g.M.Machine.decides) (cut_by parts.sealed.items) (hosted g.M.Machine.cells c.args.core.now) (entries_of (parts_in v0.reading parts)) (rise_of v0 parts fits) (ap (λ (s : Hosted). s.cells) c.requires.fresh)
           c.loop-next.index c.in-Some.next c.in-Some-found.entry
-          (hosted g.M.Machine.cells c.loop-next.core) (hosted g.M.Machine.cells c.replay.new.self)
-          (c.loop-next.invariant.state t)
+          (hosted g.M.Machine.cells c.loop-next.core) (hosted g.M.Machine.cells c.replay.new.self) c.loop-next.core.marks c.replay.new.self.marks
+          (c.loop-next.invariant.replayed t)
           (subst (λ (r : Image). Contains (entries_of (parts_in r parts)) (c.in-Some.next, c.in-Some-found.entry)) reading
           (subst (IsEntryAt (entries_of (parts_in v.reading parts)) c.in-Some.next) c.in-Some-found.is (c.in-Ok.ensures.entry t)))
           next.1
           (λ x has behind. next.2 x.0 (among v0 parts fits x has) behind)
-          (c.in-Ok-replay.ensures.ok ∙ ap (λ (k : ℕ). replay_entry (hosted_told g.M.Machine.decides) k (hosted g.M.Machine.cells c.loop-next.core) (c.in-Some.next, c.in-Some-found.entry)) c.cut-cut.ensures.cut);
+          (c.in-Ok-replay.ensures.ok ∙ ap (λ (k : ℕ). replay_entry (hosted_told g.M.Machine.decides) k (hosted g.M.Machine.cells c.loop-next.core) (c.in-Some.next, c.in-Some-found.entry)) c.cut-cut.ensures.cut)
+          c.in-Ok-replay.ensures.marks;
     }
 
 -- no entry is behind
@@ -84,13 +86,13 @@ none_behind parts index o is n = subst (IsNextIn (present parts) index) is n
 
 pub returns-clause-state : goal.returns-clause-state
 returns-clause-state g c = λ t.
-    let v0 = g.D.Disk.view c.args.disk.now in
-    let parts = c.args.parts.now in
-    let fits = c.requires.fits t in
-    replayed_all (hosted_told g.M.Machine.decides) _ (hosted g.M.Machine.cells c.args.core.now) (entries_of (parts_in v0.reading parts)) (rise_of v0 parts fits)
-    c.loop-next.index (hosted g.M.Machine.cells c.loop-next.core)
-    (λ x has. none_behind parts c.loop-next.index c.next_present.result c.in_default.is c.next_present.ensures x.0 (among v0 parts fits x has))
-    (c.loop-next.invariant.state t)
+    (replayed_all (λ x has. none_behind c.args.parts.now c.loop-next.index c.next_present.result c.in_default.is c.next_present.ensures x.0 (among (g.D.Disk.view c.args.disk.now) c.args.parts.now (c.requires.fits t) x has))
+    (c.loop-next.invariant.replayed t)).0
+
+pub returns-clause-marks : goal.returns-clause-marks
+returns-clause-marks g c = λ t.
+    (replayed_all (λ x has. none_behind c.args.parts.now c.loop-next.index c.next_present.result c.in_default.is c.next_present.ensures x.0 (among (g.D.Disk.view c.args.disk.now) c.args.parts.now (c.requires.fits t) x has))
+    (c.loop-next.invariant.replayed t)).1
 
 pub returns-clause-last : goal.returns-clause-last
 returns-clause-last g c =

@@ -1,13 +1,12 @@
--- So far the entries up to an index were replayed, which is that of an entry, and the disk was looked at.
+-- So far the entries up to an index were replayed and marked, which is that of an entry, and the disk was looked at.
 use Rattle.std.proofs.Common.{◌≡◌, ◌⊎◌, ◌≤◌, ◌-◌, IsTrue, Contains}
 use Rattle.disk_model.specs.Calls.{Looks}
 use Rattle.segment_files.specs.Folder.{entries_of}
 use Rattle.segment_set.specs.Fits.{cut_by, last_of, parts_in, present}
-use Rattle.log_model.specs.cleaning.Cells.{up_to}
 use Rattle.log_model.specs.hosted.Hosted.{hosted_told}
-use Rattle.log_model.specs.replay.Replay.{replay_from}
 use Rattle.session_table.specs.Table.{ConfirmsAcked}
 use Rattle.host_core.specs.CoreState.{hosted}
+use Rattle.host_recovery.proofs.Replaying.{Replayed}
 use Rattle.host_recovery.proofs.opening.replay_all.Given as goal
 
 abbrev pub invariant-loop-next : goal.invariant-loop-next
@@ -17,8 +16,8 @@ invariant-loop-next g l = record {
   looks : IsTrue g.D.Disk.tells → Looks (g.D.Disk.view l.fn.disk) (g.D.Disk.view l.disk);
   faults : g.D.Disk.faults l.fn.disk ≤ g.D.Disk.faults l.disk;
   confirmed : ConfirmsAcked l.fn.core.sessions → ConfirmsAcked l.core.sessions;
-  state : IsTrue g.D.Disk.tells → hosted g.M.Machine.cells l.core
-      ≡ replay_from (hosted_told g.M.Machine.decides) (cut_by l.parts.sealed.items) (hosted g.M.Machine.cells l.fn.core) (up_to l.index (entries_of (parts_in (g.D.Disk.view l.fn.disk).reading l.parts)));
+  replayed : IsTrue g.D.Disk.tells → Replayed (hosted_told g.M.Machine.decides) (cut_by l.parts.sealed.items) (hosted g.M.Machine.cells l.fn.core) (entries_of (parts_in (g.D.Disk.view l.fn.disk).reading l.parts))
+      l.index (hosted g.M.Machine.cells l.core) l.core.marks;
 }
 
 abbrev pub decreases-loop-next : goal.decreases-loop-next

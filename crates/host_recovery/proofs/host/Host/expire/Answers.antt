@@ -6,6 +6,7 @@ use Rattle.log_model.specs.plain.Admission.{Item, Admitted, Expired, Expiry, Exp
 use Rattle.log_model.specs.hosted.Hosted.{hosted_expires}
 use Rattle.session_table.specs.Table.{Table}
 use Rattle.host_core.specs.CoreState.{hosted}
+use Rattle.host_core.specs.Marking.{HasMarks}
 use Rattle.host_recovery.specs.HostState.{HostState}
 use Rattle.host_recovery.specs.Standing.{IsKept, StandsAt, StandsOrExpires}
 use Rattle.host_recovery.proofs.Stores.{stays_empty}
@@ -73,6 +74,7 @@ returns-in-Ok-clause-stands g c = λ t items at.
     (ap (λ (t : Table). due_in c.args.time t.sessions) (sym c.sessions.ensures) ∙ sym c.due.ensures ∙ c.in-Some.is) (omega (arith, c.if-last-ge-LAST_LIMIT.false, c.last.ensures)))) in
     stands_more g.M.Machine.decides g.D.Disk.tells g.D.Disk.view g.M.Machine.cells c.args.self.now items (Expired c.args.time c.in-Some.session) c.end_of.result (subst (IsKept g.D.Disk.tells g.D.Disk.view g.M.Machine.cells) c.self.view_is c.self.invariant) t c.store.new.self g.met.M.Machine.lawful at c.end_of.ensures.fits (expiry_admitted g.M.Machine.decides (hosted g.M.Machine.cells c.args.self.now.core) c.args.time c.in-Some.session expires) c.end_of.ensures.entry
     c.in-Ok.ensures.runs c.in-Ok.ensures.state (c.in-Ok.ensures.parts t) (c.in-Ok.ensures.held t at.held)
+    (subst (λ (h : HostState g.row.D.Denot g.row.M.Denot). HasMarks h.core.last (hosted g.M.Machine.cells h.core).cells h.core.marks) c.self.view_is c.keeps.ensures.marks) c.in-Ok.ensures.marks
 
 pub returns-in-Ok-clause-empty : goal.returns-in-Ok-clause-empty
 returns-in-Ok-clause-empty g c = λ t items at. c.store.ensures.empty t at.held

@@ -13,6 +13,7 @@ use Rattle.session_table.specs.Table.{confirmed_positions}
 use Rattle.host_core.specs.Entering.{confirmed_by}
 use Rattle.host_recovery.proofs.Confirmed.{confirmed_item}
 use Rattle.host_core.specs.CoreState.{hosted}
+use Rattle.host_core.specs.Marking.{HasMarks}
 use Rattle.host_recovery.specs.HostState.{HostState}
 use Rattle.host_recovery.specs.Standing.{IsKept, StandsAt, StandsOrTakes}
 use Rattle.host_recovery.specs.Answers.{admits_stored}
@@ -100,7 +101,8 @@ returns-in-Ok-store-clause-stands g c = λ t items at.
     let decided = (subst (λ (h : HostState g.row.D.Denot g.row.M.Denot). (hosted_admits g.M.Machine.decides (hosted g.M.Machine.cells h.core) c.args.one.now ≡ Admitted) × (c.in-Ok-Store.entry ≡ hosted_entry g.M.Machine.decides (hosted g.M.Machine.cells h.core) (Offered c.args.one.now))) c.self.view_is (subst (λ (x : Decided). Decides_as (hosted_admits g.M.Machine.decides (hosted g.M.Machine.cells c.self.inside.core) c.args.one.now) (hosted_entry g.M.Machine.decides (hosted g.M.Machine.cells c.self.inside.core) (Offered c.args.one.now)) (Ok x)) c.in-Ok-Store.field-0-is c.in-Ok-Store.ensures.decided)) in
     answered (c.last.result + 1) c.in-Ok-Store.entry.body c.in-Ok.answer _ _ c.in-Ok.ensures
     (stands_more g.M.Machine.decides g.D.Disk.tells g.D.Disk.view g.M.Machine.cells c.args.self.now items (Offered c.args.one.now) c.in-Ok-Store.entry (subst (IsKept g.D.Disk.tells g.D.Disk.view g.M.Machine.cells) c.self.view_is c.self.invariant) t c.store.new.self g.met.M.Machine.lawful at c.fits.ensures (offer_admitted g.M.Machine.decides (hosted g.M.Machine.cells c.args.self.now.core) c.args.one.now decided.0) decided.1
-    c.in-Ok-store.ensures.runs c.in-Ok-store.ensures.state (c.in-Ok-store.ensures.parts t) (c.in-Ok-store.ensures.held t at.held))
+    c.in-Ok-store.ensures.runs c.in-Ok-store.ensures.state (c.in-Ok-store.ensures.parts t) (c.in-Ok-store.ensures.held t at.held)
+    (subst (λ (h : HostState g.row.D.Denot g.row.M.Denot). HasMarks h.core.last (hosted g.M.Machine.cells h.core).cells h.core.marks) c.self.view_is c.keeps.ensures.marks) c.in-Ok-store.ensures.marks)
 
 pub returns-in-Ok-store-clause-any_moment : goal.returns-in-Ok-store-clause-any_moment
 returns-in-Ok-store-clause-any_moment g c = λ t items at.

@@ -22,7 +22,7 @@ returns-in-Ok-clause-opens g c =
     subst (λ (h : HostState g.row.D.Denot g.row.M.Denot). Opens g.M.Machine.decides g.D.Disk.tells g.D.Disk.view g.D.Disk.faults g.M.Machine.cells h.disk c.load.new.disk h.parts.name h.size
     (Ok (record { disk = c.load.new.disk; parts = c.in-Ok.parts; core = c.load.new.core; size = c.self.inside.size; stopped = false }))) c.self.view_is
     (opens_so g.M.Machine.decides g.D.Disk.tells g.D.Disk.view g.D.Disk.faults g.M.Machine.cells c.self.inside.disk c.load.new.disk c.self.inside.parts.name c.self.inside.size c.in-Ok.parts c.load.new.core
-    g.met.M.Machine.lawful g.met.M.Machine.one_owner (g.met.D.Disk.sound c.self.inside.disk) c.in-Ok.ensures.loads c.in-Ok.ensures.state c.in-Ok.ensures.confirmed)
+    g.met.M.Machine.lawful g.met.M.Machine.one_owner (g.met.D.Disk.sound c.self.inside.disk) c.in-Ok.ensures.loads c.in-Ok.ensures.state c.in-Ok.ensures.marks c.in-Ok.ensures.confirmed)
 
 pub returns-in-Err-clause-opens : goal.returns-in-Err-clause-opens
 returns-in-Err-clause-opens g c =
@@ -36,7 +36,7 @@ returns-in-Ok-clause-stands g c =
     let fits = c.self.invariant.fits at.runs t in
     let whole = whole_at g.M.Machine.decides g.D.Disk.tells g.D.Disk.view g.M.Machine.cells (record { disk = c.self.inside.disk; parts = c.self.inside.parts; core = c.self.inside.core; size = c.self.inside.size; stopped = c.self.inside.stopped }) items c.self.invariant t at in
     stands_again g.M.Machine.decides g.D.Disk.view g.M.Machine.cells (record { disk = c.self.inside.disk; parts = c.self.inside.parts; core = c.self.inside.core; size = c.self.inside.size; stopped = c.self.inside.stopped }) items at fits whole (record { disk = c.load.new.disk; parts = c.in-Ok.parts; core = c.load.new.core; size = c.self.inside.size; stopped = false }) g.met.M.Machine.lawful g.met.M.Machine.one_owner (g.met.D.Disk.sound c.self.inside.disk t) c.in-Ok.ensures.loads.name_is refl
-    (c.in-Ok.ensures.loads.found t).fits (c.in-Ok.ensures.loads.found t).are ((c.in-Ok.ensures.loads.found t).held (stays_empty (g.D.Disk.view c.self.inside.disk) c.self.inside.parts fits at.held)) (c.in-Ok.ensures.state t))
+    (c.in-Ok.ensures.loads.found t).fits (c.in-Ok.ensures.loads.found t).are ((c.in-Ok.ensures.loads.found t).held (stays_empty (g.D.Disk.view c.self.inside.disk) c.self.inside.parts fits at.held)) (c.in-Ok.ensures.state t) (c.in-Ok.ensures.marks t))
 
 pub returns-in-Ok-clause-layout : goal.returns-in-Ok-clause-layout
 returns-in-Ok-clause-layout g c =

@@ -1,4 +1,6 @@
 use Rattle.std.proofs.Common.{ℕ, ◌≡◌, ◌+◌, ◌<◌, [], ◌∷◌, length, Option, None, Ok, is_none, IsTrue, ap, sym, subst, ◌∙◌, arith}
+use Rattle.std.specs.FinMap.{insert}
+use Rattle.host_types.specs.Cells.{Cells}
 use Rattle.host_types.specs.Limits.{index_limit}
 use Rattle.host_types.specs.Ranges.{IsInRange}
 use Rattle.disk_model.specs.View.{LeavesOnly}
@@ -10,8 +12,10 @@ use Rattle.log_model.specs.hosted.Hosted.{Hosted, hosted_told}
 use Rattle.log_model.specs.cleaning.Layout.{with_entry}
 use Rattle.log_model.specs.replay.Replay.{replay_entry}
 use Rattle.session_table.specs.Table.{confirmed_positions}
+use Rattle.released_marks.specs.Marks.{Marks}
 use Rattle.host_core.specs.Entering.{confirmed_by}
 use Rattle.host_core.specs.CoreState.{hosted}
+use Rattle.host_core.specs.Marking.{AreMarked}
 use Rattle.host_recovery.specs.HostState.{HostState}
 use Rattle.host_recovery.specs.Standing.{layout_in}
 use Rattle.host_recovery.proofs.Files.{lies_more}
@@ -96,6 +100,13 @@ returns-in-Ok-append-clause-state g c =
     let state = c.reserve.ensures.state ∙ ap (λ (h : HostState g.row.D.Denot g.row.M.Denot). hosted g.M.Machine.cells h.core) c.self.view_is in
     let index = (c.last-index.ensures ∙ ap (λ (h : HostState g.row.D.Denot g.row.M.Denot). h.core.last) c.self.view_is) in
     c.apply.ensures.state ∙ (λ i. replay_entry (hosted_told g.M.Machine.decides) 0 (state i) (index i + 1, c.args.entry))
+
+pub returns-in-Ok-append-clause-marks : goal.returns-in-Ok-append-clause-marks
+returns-in-Ok-append-clause-marks g c =
+    let before : hosted g.M.Machine.cells c.reserve.new.self ≡ hosted g.M.Machine.cells c.args.self.now.core = c.reserve.ensures.state ∙ ap (λ (h : HostState g.row.D.Denot g.row.M.Denot). hosted g.M.Machine.cells h.core) c.self.view_is in
+    let index = (c.last-index.ensures ∙ ap (λ (h : HostState g.row.D.Denot g.row.M.Denot). h.core.last) c.self.view_is) in
+    let added = c.in-Ok-reserve.ensures.marks ∙ (λ i. insert (c.self.view_is i).core.marks (c.last-index.result + 1) None) in
+    subst (λ (x : ℕ × Cells × Marks). AreMarked (x.0 + 1) x.1 (hosted g.M.Machine.cells c.apply.new.self).cells x.2 c.apply.new.self.marks) (λ i. (index i, (before i).cells, (added ∙ (λ j. insert c.args.self.now.core.marks (index j + 1) None)) i)) c.apply.ensures.marks
 
 pub returns-in-Ok-append-clause-parts : goal.returns-in-Ok-append-clause-parts
 returns-in-Ok-append-clause-parts g c =
