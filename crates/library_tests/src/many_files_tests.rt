@@ -252,17 +252,9 @@ fn put_tick(rt: &impl Abort, alloc: Global, out: &mut Vec<u8>, index: Index) {
 /// The first bytes of a file, with its gate open.
 fn head_of(made: &Made, id: FileId) -> [u8; 64] {
     match made.1 {
-        Form::Rewritten(last, cut, floor) => Descriptor {
-            rewritten: true,
-            generation: id.generation,
-            base: id.base,
-            last,
-            cut,
-            floor,
-            count: made.2.len() as u64,
-            size: 0,
+        Form::Rewritten(last, cut, floor) => {
+            Descriptor::written(id, last, cut, floor, made.2.len() as u64).bytes()
         }
-        .bytes(),
         Form::Appended(size) => Descriptor::appended(id, size).bytes(),
         Form::Closed => [0; 64],
     }

@@ -1,5 +1,5 @@
 -- Entries that come next behind an index, as a frame has them.
-use Rattle.std.proofs.Common.{◌≡◌, ℕ, ◌+◌, ◌*◌, ◌≤◌, List, [], ◌∷◌, length, arith, length-append}
+use Rattle.std.proofs.Common.{◌≡◌, ℕ, ◌+◌, ◌*◌, ◌≤◌, [], ◌∷◌, length, arith, length-append}
 use Rattle.entry_codec.specs.Spelled.{spelled}
 use Rattle.entry_codec.proofs.Bounds.{greatest_size, least_size}
 use Rattle.segment_files.specs.Parse.{Numbered}

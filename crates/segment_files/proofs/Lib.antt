@@ -2,6 +2,7 @@ pub mod Opening
 pub mod Bytes
 pub mod Appending
 pub mod Closed
+pub mod Copying
 pub mod Settling
 pub mod Descriptors
 pub mod Indexes
@@ -19,5 +20,6 @@ pub mod Scanning
 pub mod Wholes
 pub mod Following
 pub mod FrameLemmas
+pub mod Rewriting
 pub mod Examples
 pub mod Unlisted

@@ -2,7 +2,7 @@
 use Rattle.std.proofs.Common.{◌≡◌, ℕ, zero, suc, refl, [], ◌∷◌, ◌<◌, get_or, ◌+◌, ◌-◌, ◌≤◌, List, ◌++◌, length, take, drop, Ok, sym, ap, subst, ◌∙◌, arith, length-take}
 use Rattle.std.proofs.lemmas.List.{take-append-le, take-take, take_all}
 use Rattle.host_types.specs.declared.entry.Entry.{Entry}
-use Rattle.entry_codec.specs.Spelled.{IsSpelledBy}
+use Rattle.entry_codec.specs.Spelled.{IsSpelledBy, spelled}
 use Rattle.entry_codec.specs.Answered.{IsRead}
 use Rattle.entry_codec.specs.Reading.{Spells}
 use Rattle.disk_model.specs.Calls.{ReadsInto}
@@ -22,6 +22,9 @@ module _ (bytes old new : List ℕ) (from to n size index : ℕ) (entry : Entry)
   spelled_here =
       let same : take size (take n new) ≡ take size (drop from bytes) = ap (take size) reads.front ∙ take-take size n (drop from bytes) enough in
       subst (λ (l : List ℕ). IsSpelledBy l index entry) (sym same) at.spelled
+
+  pub spelled_first : take size new ≡ spelled index entry
+  spelled_first = sym (take-take size n new enough) ∙ spelled_here.exact
 
 -- what was written into a vector is what it holds
 pub written_back : (len : ℕ) (new rest : List ℕ) → len ≡ length new → take len (new ++ rest) ≡ new

@@ -3,4 +3,5 @@ pub mod Files
 pub mod Folder
 pub mod Parse
 pub mod Numbers
+pub mod Rewritten
 pub mod Writes

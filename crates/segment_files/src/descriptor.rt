@@ -3,6 +3,7 @@ ghost use Rattle.std.specs.Prelude.{◌≡◌, ◌+◌, ◌≤◌, ◌<◌, ◌^
 ghost use Rattle.disk_model.specs.Image.{IsFileId, written};
 ghost use Rattle.segment_files.specs.Parse.{descriptor_fields, exactly, fields_by, first_wrong, in_rewritten, is_right, is_rewritten, number_or_zero, size_field, wrong_at};
 ghost use Rattle.segment_files.specs.Contents.{HasRule, appended_descriptor, descriptor_bytes, descriptor_in, last_by, rewritten_descriptor, rule_by};
+ghost use Rattle.segment_files.specs.Rewritten.{written_descriptor};
 
 use crate::numbers::{Size, number_in, u32_at, u64_at};
 use crate::rule::Rule;
@@ -187,6 +188,22 @@ impl Descriptor {
             floor: 0,
             count: 0,
             size,
+        }
+    }
+
+    /// That of a file that a compaction writes, with `count` entries of the range up to `last`.
+    pub fn written(id: FileId, last: Index, cut: Index, floor: Index, count: u64) -> Descriptor
+        ensures { result ≡ written_descriptor id last cut floor count }
+    {
+        Descriptor {
+            rewritten: true,
+            generation: id.generation,
+            base: id.base,
+            last,
+            cut,
+            floor,
+            count,
+            size: 0,
         }
     }
 

@@ -1,5 +1,6 @@
 // Writes frames: an open gate, a length, and so many bytes of entries.
-ghost use Rattle.std.specs.Prelude.{◌≡◌, ◌++◌, ◌+◌, ◌-◌, ◌*◌, ◌≤◌, ◌<◌, [], length, take, OnOk, OnErr};
+ghost use Rattle.std.specs.Prelude.{◌≡◌, ◌++◌, ◌+◌, ◌-◌, ◌*◌, ◌≤◌, ◌<◌, ◌^◌, ℕ, List, [], ◌∷◌, length, take, IfOk, OnOk, OnErr};
+ghost use Rattle.std.specs.Int.{w32, to_be_bytes};
 ghost use Rattle.segment_files.specs.Contents.{body_bytes, frame_bytes, lent, places_from, shut_frame_bytes};
 
 use crate::descriptor::put;
@@ -14,6 +15,28 @@ pub(crate) const BODY_LIMIT: usize = 8388608;
 
 /// What stands in front of a body: the open gate, and room for the body's length.
 const HEAD: [u8; 5] = [1, 0, 0, 0, 0];
+
+/// Begins an open frame behind the bytes that stand there: its gate, and room for the length of its body. Answers where it
+/// begins. Where no memory is left `out` is as before.
+pub fn begin_frame(out: &mut Vec<u8>) -> Result<usize, NoMemory>
+    ensures ok { IfOk result (λ start. (start ≡ length out.old.items) × (out.new.items ≡ out.old.items ++ (1 ∷ 0 ∷ 0 ∷ 0 ∷ 0 ∷ []))) }
+    ensures err { OnErr result (out.new.items ≡ out.old.items) }
+{
+    let start = out.len();
+    out.extend_from_slice(&HEAD)?;
+    Ok(start)
+}
+
+/// Puts the length of the body that stands behind the head of the frame that begins there.
+pub fn end_frame(out: &mut Vec<u8>, start: usize)
+    requires head { start + 5 ≤ length out.old.items }
+    requires fits { length out.old.items < start + 5 + 2 ^ 32 }
+    ensures { (ahead body : List ℕ) → length ahead ≡ start → out.old.items ≡ ahead ++ (1 ∷ 0 ∷ 0 ∷ 0 ∷ 0 ∷ body)
+        → out.new.items ≡ ahead ++ ((1 ∷ to_be_bytes w32 (length body)) ++ body) }
+{
+    let size = (out.len() - start - HEAD.len()) as u32;
+    put(out, start + 1, &size.to_be_bytes());
+}
 
 /// Puts entries behind what stands there, and the place of each, counted from `start`, behind the other places.
 fn put_entries(
@@ -50,10 +73,9 @@ fn put_frame(
     ensures places { OnOk result (places.new.items ≡ places_from 5 (lent entries.now)) }
     ensures ahead { take start out.new.items ≡ out.old.items }
 {
-    out.extend_from_slice(&HEAD)?;
+    begin_frame(out)?;
     put_entries(entries, start, out, places)?;
-    let size = (out.len() - start - HEAD.len()) as u32;
-    put(out, start + 1, &size.to_be_bytes());
+    end_frame(out, start);
     Ok(())
 }
 
